@@ -49,7 +49,7 @@ fn drift(minute: u64) -> u64
 // The close after an open: up or down by at most 22 cents, and never below 50.00.
 fn moved(cents: u64, minute: u64, dice: u64) -> u64 {
     let up = cents % 1_000_000 + dice / 65_536 % 41 + drift(minute);
-    if up < 5_022 { 5_000 } else { up - 22 }
+    up.max(5_022) - 22
 }
 
 // Cents as a price.
@@ -62,26 +62,14 @@ fn present(minute: u64) -> u64 {
     if minute < 26 { 0 } else { 3 }
 }
 
-fn larger(a: u64, b: u64) -> u64
-    ensures { result ≡ max a b }
-{
-    if a < b { b } else { a }
-}
-
-fn smaller(a: u64, b: u64) -> u64
-    ensures { result ≡ min a b }
-{
-    if b < a { b } else { a }
-}
-
 // The bar of a minute: it opens where the one before it closed.
 fn minute_bar(m: Market, minute: u64) -> Minute {
     let dice = thrown(m.dice);
     let wide = thrown(dice);
     let open = m.cents % 1_000_000 + 100;
     let close = moved(m.cents, minute, dice) % 1_000_000 + 100;
-    let high = larger(open, close) + wide / 65_536 % 15;
-    let low = smaller(open, close) - wide / 1_024 % 15;
+    let high = open.max(close) + wide / 65_536 % 15;
+    let low = open.min(close) - wide / 1_024 % 15;
     let last = price(close);
     let quick = m.quick + (last - m.quick) * 0.15;
     let slow = m.slow + (last - m.slow) * 0.05;

@@ -75,13 +75,7 @@ fn say_state(output: &mut impl Write, state: State) -> io::Result<()> {
 
 // Whether n words of the whole day, from a place on, are the first n of a part of it.
 fn same_words(whole: &[u64], base: usize, part: &[u64], n: usize) -> bool {
-    let mut same = true;
-    for i in 0..n {
-        if words::word_from(whole, base, i) != words::word(part, i) {
-            same = false;
-        }
-    }
-    same
+    (0..n).all(|i| words::word_from(whole, base, i) == words::word(part, i))
 }
 
 fn say_same(output: &mut impl Write, same: bool) -> io::Result<()> {
@@ -134,20 +128,12 @@ fn finished(state: State, rows: &[u64], equity: &mut [u64], trades: &mut [u64]) 
 
 // The bars before the loss.
 fn bars_before(bars: &[u64]) -> &[u64] {
-    let end = LOST * BAR_WORDS;
-    if end <= bars.len() {
-        return &bars[..end];
-    }
-    bars
+    &bars[..bars.len().min(LOST * BAR_WORDS)]
 }
 
 // The bars from the loss on.
 fn bars_after(bars: &[u64]) -> &[u64] {
-    let end = LOST * BAR_WORDS;
-    if end <= bars.len() {
-        return &bars[end..];
-    }
-    bars
+    &bars[bars.len().min(LOST * BAR_WORDS)..]
 }
 
 // The rest of the day on a box that knows nothing but the image; how many trades it made.

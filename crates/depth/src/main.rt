@@ -25,32 +25,25 @@ enum Lookback {
     NoNumber,
 }
 
-// What a decimal digit stands for; 10 for any other byte.
-fn digit(byte: u8) -> u8 {
+// What a decimal digit stands for.
+fn digit(byte: u8) -> Option<u8> {
     match byte {
-        b'0'..=b'9' => byte - b'0',
-        _ => 10,
+        b'0'..=b'9' => Some(byte - b'0'),
+        _ => None,
     }
-}
-
-fn wide(byte: u8) -> u64
-    ensures { result < 256 }
-{
-    byte as u64
 }
 
 // The number with one digit more.
 fn with_digit(n: u64, digit: u8) -> u64 {
-    if n < LARGE { 10 * n + wide(digit) } else { n }
+    if n < LARGE { 10 * n + u64::from(digit) } else { n }
 }
 
 fn lookback_of(argument: &[u8]) -> Lookback {
     let mut n = 0u64;
     for byte in argument {
-        let d = digit(*byte);
-        if 9 < d {
+        let Some(d) = digit(*byte) else {
             return Lookback::NoNumber;
-        }
+        };
         n = with_digit(n, d);
     }
     Lookback::Bars(n)
@@ -62,11 +55,7 @@ fn tell(rt: &impl Print, what: &str, n: u64) -> io::Result<()> {
 
 // The bytes of a dump (request 11): a header, and then the window.
 fn dump_bytes(window: u64) -> u64 {
-    if window < LARGEST_WINDOW {
-        HEADER + window
-    } else {
-        HEADER + LARGEST_WINDOW
-    }
+    HEADER + window.min(LARGEST_WINDOW)
 }
 
 fn tell_depth(rt: &impl Print, table: &[u8], lookback: u64) -> io::Result<()> {

@@ -13,6 +13,7 @@ pub enum Funding {
 }
 
 // The slippage of an order of `qty` as a fraction of the price.
+#[tactic(auto, unfolding(crate::specs::Costs::slippage_rate))]
 pub fn slippage_rate(slippage: Slippage, qty: f64, volume: f64) -> f64
     ensures { result ≡ slippage_rate slippage qty volume }
 {
@@ -29,6 +30,7 @@ pub fn slippage_rate(slippage: Slippage, qty: f64, volume: f64) -> f64
 }
 
 // The open position closed at `price`, with the taker fee on what it is worth there.
+#[tactic(auto, unfolding(crate::specs::Costs::closed))]
 pub fn close(pf: Portfolio, price: f64, time: u64, taker_bps: f64, reason: u64) -> Closed
     ensures { result ≡ closed pf price time taker_bps reason }
 {
@@ -38,6 +40,7 @@ pub fn close(pf: Portfolio, price: f64, time: u64, taker_bps: f64, reason: u64) 
 }
 
 // Funding for one bar, where it is switched on and a position is open.
+#[tactic(auto, unfolding(crate::specs::Costs::charge_funding))]
 pub fn charge_funding(on: bool, funding: Funding, pf: Portfolio) -> Portfolio
     ensures { result ≡ charge_funding on funding pf }
 {
@@ -50,6 +53,7 @@ pub fn charge_funding(on: bool, funding: Funding, pf: Portfolio) -> Portfolio
     pf
 }
 
+#[tactic(auto, unfolding(crate::specs::Costs::with_funding))]
 fn with_funding(funding: Funding, pf: Portfolio) -> Portfolio
     ensures { result ≡ with_funding funding pf }
 {

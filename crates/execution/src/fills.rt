@@ -40,6 +40,7 @@ pub enum Exit {
     Exited(Closed),
 }
 
+#[tactic(auto, unfolding(crate::specs::Fills::direction))]
 fn direction(side: Side) -> f64
     ensures { result ≡ direction side }
 {
@@ -50,6 +51,7 @@ fn direction(side: Side) -> f64
 }
 
 // The volatility that the sizing asks for, over the rows before this bar, which begin at row `start`.
+#[tactic(auto, unfolding(crate::specs::Fills::volatility_for))]
 fn volatility_for(sizing: Sizing, rows: &[u64], slots: usize, start: usize) -> Optional
     ensures { result ≡ volatility_for sizing (ring_of slots start rows.now) }
 {
@@ -66,6 +68,7 @@ fn volatility_for(sizing: Sizing, rows: &[u64], slots: usize, start: usize) -> O
 }
 
 // What an entry at `price` orders, in lots.
+#[tactic(auto, unfolding(crate::specs::Fills::quantity))]
 fn quantity(terms: Terms, cash: f64, price: f64, rv: Optional) -> Quantity
     ensures { result ≡ quantity terms cash price rv }
 {
@@ -75,6 +78,7 @@ fn quantity(terms: Terms, cash: f64, price: f64, rv: Optional) -> Quantity
 }
 
 // Slippage by volume needs the order's size: what it would be at the price before slippage.
+#[tactic(auto, unfolding(crate::specs::Fills::probe_qty))]
 fn probe_qty(slippage: Slippage, terms: Terms, cash: f64, raw_price: f64, rv: Optional) -> Quantity
     ensures { result ≡ probe_qty slippage terms cash raw_price rv }
 {
@@ -86,6 +90,7 @@ fn probe_qty(slippage: Slippage, terms: Terms, cash: f64, raw_price: f64, rv: Op
 }
 
 // A partial fill takes at most a share of the bar's volume, in lots again.
+#[tactic(auto, unfolding(crate::specs::Fills::within_volume))]
 fn within_volume(terms: Terms, sized: Quantity, volume: f64) -> Quantity
     ensures { result ≡ within_volume terms sized volume }
 {
@@ -103,6 +108,7 @@ fn within_volume(terms: Terms, sized: Quantity, volume: f64) -> Quantity
 }
 
 // The position opened, where it would not count as flat.
+#[tactic(auto, unfolding(crate::specs::Fills::entry_with))]
 fn entry_with(
     dir: f64,
     ordered: Quantity,
@@ -144,6 +150,7 @@ pub fn execute_entry(
 }
 
 // The same where the rows before this bar begin at row `start`, go on to the last and then from the first.
+#[tactic(auto, unfolding(crate::specs::Fills::execute_entry))]
 pub fn execute_entry_ring(
     side: Side,
     raw_price: f64,
@@ -173,6 +180,7 @@ pub fn execute_entry_ring(
 }
 
 // A long exit sells and fills lower, a short exit buys and fills higher.
+#[tactic(auto, unfolding(crate::specs::Fills::exit_direction))]
 fn exit_direction(pf: Portfolio) -> f64
     ensures { result ≡ exit_direction pf }
 {
@@ -183,6 +191,7 @@ fn exit_direction(pf: Portfolio) -> f64
 }
 
 // The open position closed at `raw_price`, before slippage.
+#[tactic(auto, unfolding(crate::specs::Fills::execute_exit))]
 pub fn execute_exit(
     reason: u64,
     raw_price: f64,

@@ -19,6 +19,7 @@ pub enum Trigger {
 }
 
 // The most favourable price since the entry, this bar counted.
+#[tactic(auto, unfolding(crate::specs::Intrabar::favourable))]
 pub fn favourable(candle: Candle, extreme: f64, is_long: bool) -> f64
     ensures { result ≡ favourable candle extreme is_long }
 {
@@ -29,6 +30,7 @@ pub fn favourable(candle: Candle, extreme: f64, is_long: bool) -> f64
 }
 
 // The favourable extreme after this bar: it moves only in a position.
+#[tactic(auto, unfolding(crate::specs::Intrabar::extreme_with))]
 pub fn extreme_with(candle: Candle, pf: Portfolio, extreme: f64) -> f64
     ensures { result ≡ extreme_with candle pf extreme }
 {
@@ -38,7 +40,10 @@ pub fn extreme_with(candle: Candle, pf: Portfolio, extreme: f64) -> f64
     extreme
 }
 
+// `level`'s reached_below and reached_above put the open first into the same `min` and `max`, which decides between two zeros' signs: so
+// these are no twins of those.
 // A level that is touched from above: filled there, or at the open where the bar opened under it.
+#[tactic(auto, unfolding(crate::specs::Intrabar::fall_to))]
 fn fall_to(level: f64, open: f64, low: f64) -> Optional
     ensures { result ≡ fall_to level «open» low }
 {
@@ -49,6 +54,7 @@ fn fall_to(level: f64, open: f64, low: f64) -> Optional
 }
 
 // A level that is touched from below: filled there, or at the open where the bar opened over it.
+#[tactic(auto, unfolding(crate::specs::Intrabar::rise_to))]
 fn rise_to(level: f64, open: f64, high: f64) -> Optional
     ensures { result ≡ rise_to level «open» high }
 {
@@ -59,6 +65,7 @@ fn rise_to(level: f64, open: f64, high: f64) -> Optional
 }
 
 // The fill at a level `pct` percent under `base`.
+#[tactic(auto, unfolding(crate::specs::Intrabar::fill_under))]
 fn fill_under(candle: Candle, base: f64, pct: Optional) -> Optional
     ensures { result ≡ fill_under candle base pct }
 {
@@ -69,6 +76,7 @@ fn fill_under(candle: Candle, base: f64, pct: Optional) -> Optional
 }
 
 // The fill at a level `pct` percent over `base`.
+#[tactic(auto, unfolding(crate::specs::Intrabar::fill_over))]
 fn fill_over(candle: Candle, base: f64, pct: Optional) -> Optional
     ensures { result ≡ fill_over candle base pct }
 {
@@ -79,6 +87,7 @@ fn fill_over(candle: Candle, base: f64, pct: Optional) -> Optional
 }
 
 // A level's fill and its reason.
+#[tactic(auto, unfolding(crate::specs::Intrabar::fired))]
 fn fired(price: Optional, reason: u64) -> Trigger
     ensures { result ≡ fired price reason }
 {
@@ -89,6 +98,7 @@ fn fired(price: Optional, reason: u64) -> Trigger
 }
 
 // The first of two that fired.
+#[tactic(auto, unfolding(crate::specs::Intrabar::or_else))]
 fn or_else(first: Trigger, second: Trigger) -> Trigger
     ensures { result ≡ or_else first second }
 {
@@ -99,6 +109,7 @@ fn or_else(first: Trigger, second: Trigger) -> Trigger
 }
 
 // The stop is taken to be hit before the trailing stop, and that before the target.
+#[tactic(auto, unfolding(crate::specs::Intrabar::first_of))]
 fn first_of(stop: Optional, trail: Optional, take: Optional) -> Trigger
     ensures { result ≡ first_of stop trail take }
 {
@@ -108,7 +119,9 @@ fn first_of(stop: Optional, trail: Optional, take: Optional) -> Trigger
     or_else(stopped, or_else(trailed, taken))
 }
 
-// A long's stops stand under, its target over.
+// A long's stops stand under, its target over. It and a short's differ in each function that they call: one function over both would
+// be passed those as closures, and be no shorter.
+#[tactic(auto, unfolding(crate::specs::Intrabar::long_exit))]
 fn long_exit(candle: Candle, risk: Risk, entry: f64, extreme: f64) -> Trigger
     ensures { result ≡ long_exit candle risk entry extreme }
 {
@@ -122,6 +135,7 @@ fn long_exit(candle: Candle, risk: Risk, entry: f64, extreme: f64) -> Trigger
 }
 
 // A short's stops stand over, its target under.
+#[tactic(auto, unfolding(crate::specs::Intrabar::short_exit))]
 fn short_exit(candle: Candle, risk: Risk, entry: f64, extreme: f64) -> Trigger
     ensures { result ≡ short_exit candle risk entry extreme }
 {
@@ -135,6 +149,7 @@ fn short_exit(candle: Candle, risk: Risk, entry: f64, extreme: f64) -> Trigger
 }
 
 // The level that the bar touches, if any.
+#[tactic(auto, unfolding(crate::specs::Intrabar::intrabar_exit))]
 pub fn intrabar_exit(candle: Candle, risk: Risk, entry: f64, extreme: f64, is_long: bool) -> Trigger
     ensures { result ≡ intrabar_exit candle risk entry extreme is_long }
 {
@@ -147,6 +162,7 @@ pub fn intrabar_exit(candle: Candle, risk: Risk, entry: f64, extreme: f64, is_lo
     short_exit(candle, risk, entry, extreme)
 }
 
+#[tactic(auto, unfolding(crate::specs::Intrabar::breached))]
 fn breached(candle: Candle, price: f64, is_long: bool) -> bool
     ensures { result ≡ breached candle price is_long }
 {
@@ -157,6 +173,7 @@ fn breached(candle: Candle, price: f64, is_long: bool) -> bool
 }
 
 // The bankruptcy price, where the bar reaches it: there the account's equity is 0.
+#[tactic(auto, unfolding(crate::specs::Intrabar::bankruptcy_price, crate::specs::Intrabar::liquidated))]
 pub fn liquidation(candle: Candle, pf: Portfolio) -> Trigger
     ensures { result ≡ liquidated candle pf }
 {
@@ -170,6 +187,7 @@ pub fn liquidation(candle: Candle, pf: Portfolio) -> Trigger
     Trigger::Untouched
 }
 
+#[tactic(auto, unfolding(crate::specs::Intrabar::or_liquidated))]
 fn or_liquidated(fired: Trigger, candle: Candle, risk: Risk, pf: Portfolio) -> Trigger
     ensures { result ≡ or_liquidated fired candle risk pf }
 {
@@ -184,6 +202,7 @@ fn or_liquidated(fired: Trigger, candle: Candle, risk: Risk, pf: Portfolio) -> T
     }
 }
 
+#[tactic(auto, unfolding(crate::specs::Intrabar::closed_by))]
 fn closed_by(trigger: Trigger, candle: Candle, terms: Terms, pf: Portfolio) -> Exit
     ensures { result ≡ closed_by trigger candle terms pf }
 {
@@ -196,6 +215,7 @@ fn closed_by(trigger: Trigger, candle: Candle, terms: Terms, pf: Portfolio) -> E
 }
 
 // The open position against one bar's range. `extreme` has taken this bar already.
+#[tactic(auto, unfolding(crate::specs::Intrabar::apply_intrabar_exits, crate::specs::Intrabar::touched))]
 pub fn apply_intrabar_exits(candle: Candle, terms: Terms, pf: Portfolio, extreme: f64) -> Exit
     ensures { result ≡ apply_intrabar_exits candle terms pf extreme }
 {

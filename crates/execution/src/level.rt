@@ -41,6 +41,7 @@ pub enum OrderKind {
 }
 
 // The level that stands `pct` percent over a close; under it where pct is negative.
+#[tactic(auto, unfolding(crate::specs::Level::level_from))]
 fn level_from(close: f64, pct: f64) -> f64
     ensures { result ≡ level_from close pct }
 {
@@ -48,6 +49,7 @@ fn level_from(close: f64, pct: f64) -> f64
 }
 
 // The order kind and the prices of an entry that is decided at a close.
+#[tactic(auto, unfolding(crate::specs::Level::entry_trigger))]
 pub fn entry_trigger(entries: Entries, close: f64) -> OrderKind
     ensures { result ≡ entry_trigger entries close }
 {
@@ -64,6 +66,7 @@ pub fn entry_trigger(entries: Entries, close: f64) -> OrderKind
 }
 
 // The fee of an entry: a resting limit provides liquidity.
+#[tactic(auto, unfolding(crate::specs::Level::fee_bps))]
 pub fn fee_bps(kind: OrderKind, maker_bps: f64, taker_bps: f64) -> f64
     ensures { result ≡ fee_bps kind maker_bps taker_bps }
 {
@@ -76,6 +79,7 @@ pub fn fee_bps(kind: OrderKind, maker_bps: f64, taker_bps: f64) -> f64
 }
 
 // A level that is reached from above: filled there, or at the open where the bar opened under it.
+#[tactic(auto, unfolding(crate::specs::Level::reached_below))]
 fn reached_below(level: f64, candle: Candle) -> Optional
     ensures { result ≡ reached_below level candle }
 {
@@ -86,6 +90,7 @@ fn reached_below(level: f64, candle: Candle) -> Optional
 }
 
 // A level that is reached from below: filled there, or at the open where the bar opened over it.
+#[tactic(auto, unfolding(crate::specs::Level::reached_above))]
 fn reached_above(level: f64, candle: Candle) -> Optional
     ensures { result ≡ reached_above level candle }
 {
@@ -96,6 +101,7 @@ fn reached_above(level: f64, candle: Candle) -> Optional
 }
 
 // A buyer's stop that was reached at `price`, held to its limit.
+#[tactic(auto, unfolding(crate::specs::Level::no_dearer_than))]
 fn no_dearer_than(limit: f64, price: Optional, candle: Candle) -> Optional
     ensures { result ≡ no_dearer_than limit price candle }
 {
@@ -114,6 +120,7 @@ fn no_dearer_than(limit: f64, price: Optional, candle: Candle) -> Optional
 }
 
 // A seller's stop that was reached at `price`, held to its limit.
+#[tactic(auto, unfolding(crate::specs::Level::no_cheaper_than))]
 fn no_cheaper_than(limit: f64, price: Optional, candle: Candle) -> Optional
     ensures { result ≡ no_cheaper_than limit price candle }
 {
@@ -131,6 +138,8 @@ fn no_cheaper_than(limit: f64, price: Optional, candle: Candle) -> Optional
     }
 }
 
+// It and a short's differ in each function that they call: one function over both would be passed those as closures, and be no shorter.
+#[tactic(auto, unfolding(crate::specs::Level::long_fill))]
 fn long_fill(kind: OrderKind, candle: Candle) -> Optional
     ensures { result ≡ long_fill kind candle }
 {
@@ -146,6 +155,7 @@ fn long_fill(kind: OrderKind, candle: Candle) -> Optional
     }
 }
 
+#[tactic(auto, unfolding(crate::specs::Level::short_fill))]
 fn short_fill(kind: OrderKind, candle: Candle) -> Optional
     ensures { result ≡ short_fill kind candle }
 {
@@ -162,6 +172,7 @@ fn short_fill(kind: OrderKind, candle: Candle) -> Optional
 }
 
 // The raw price at which an entry fills on a bar; absent where the bar does not reach it, and the order works on.
+#[tactic(auto, unfolding(crate::specs::Level::level_fill))]
 pub fn level_fill(side: Side, kind: OrderKind, candle: Candle) -> Optional
     ensures { result ≡ level_fill side kind candle }
 {

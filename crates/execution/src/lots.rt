@@ -36,6 +36,7 @@ impl Quantity {
 }
 
 // The quantity as a whole number of lots, the largest that `qty` holds. A lot of 0 leaves it as it is.
+#[tactic(auto, unfolding(crate::specs::Lots::in_lots, crate::specs::Lots::whole_lots))]
 pub fn in_lots(lot: f64, qty: f64) -> Quantity
     ensures { result ≡ in_lots lot qty }
 {
@@ -53,6 +54,7 @@ pub fn in_lots(lot: f64, qty: f64) -> Quantity
 }
 
 // What a size is in lots.
+#[tactic(auto, unfolding(crate::specs::Lots::size_in_lots))]
 pub fn size_in_lots(lot: f64, sized: Optional) -> Quantity
     ensures { result ≡ size_in_lots lot sized }
 {

@@ -11,6 +11,7 @@ pub enum Optional {
 
 impl Optional {
     // The number, or `other` where there is none.
+    #[tactic(auto, unfolding(crate::specs::Optional::unwrap_or))]
     pub fn unwrap_or(self, other: f64) -> f64
         ensures { result ≡ unwrap_or self other }
     {

@@ -6,6 +6,7 @@ use crate::optional::Optional;
 use crate::terms::{Risk, Sizing};
 
 // The quantity of an entry at `price` with `equity` to spend; absent where there is nothing to order.
+#[tactic(auto, unfolding(crate::specs::Size::capped_qty, crate::specs::Size::size))]
 pub fn size(sizing: Sizing, risk: Risk, equity: f64, price: f64, realized_vol: Optional) -> Optional
     ensures { result ≡ size sizing risk equity price realized_vol }
 {
@@ -30,6 +31,7 @@ pub fn size(sizing: Sizing, risk: Risk, equity: f64, price: f64, realized_vol: O
 }
 
 // What the sizing asks for, before the caps.
+#[tactic(auto, unfolding(crate::specs::Size::wanted))]
 fn wanted(
     sizing: Sizing,
     stop: Optional,
@@ -50,6 +52,7 @@ fn wanted(
 }
 
 // A stop-loss hit loses risk_pct of the equity. No stop loss, no order: the engine refuses such settings beforehand.
+#[tactic(auto, unfolding(crate::specs::Size::by_risk))]
 fn by_risk(risk_pct: f64, stop: Optional, equity: f64, price: f64) -> Optional
     ensures { result ≡ by_risk risk_pct stop equity price }
 {
@@ -65,6 +68,7 @@ fn by_risk(risk_pct: f64, stop: Optional, equity: f64, price: f64) -> Optional
 }
 
 // The position's volatility a bar is target_vol. No volatility yet, no order.
+#[tactic(auto, unfolding(crate::specs::Size::by_volatility))]
 fn by_volatility(target_vol: f64, realized_vol: Optional, equity: f64, price: f64) -> Optional
     ensures { result ≡ by_volatility target_vol realized_vol equity price }
 {
@@ -83,6 +87,7 @@ fn capped(qty: f64, price: f64, most: f64) -> f64
 
 // The most that a position may be worth: the leverage's share of the equity, 1 where none is set, and within it the
 // position's.
+#[tactic(auto, unfolding(crate::specs::Size::max_notional))]
 fn max_notional(risk: Risk, equity: f64) -> f64
     ensures { result ≡ max_notional risk equity }
 {
@@ -95,6 +100,7 @@ fn max_notional(risk: Risk, equity: f64) -> f64
     )
 }
 
+#[tactic(auto, unfolding(crate::specs::Size::at_most))]
 fn at_most(most: f64, max_position_pct: Optional, equity: f64) -> f64
     ensures { result ≡ at_most most max_position_pct equity }
 {

@@ -34,6 +34,7 @@ fn close_at(rows: &[u64], slots: usize, held: usize, start: usize, i: usize) -> 
 }
 
 // The return from one close to the next; absent where the first is next to nothing.
+#[tactic(auto, unfolding(crate::specs::Volatility::simple_return))]
 fn simple_return(before: f64, now: f64) -> Optional
     ensures { result ≡ simple_return before «now» }
 {
@@ -43,6 +44,7 @@ fn simple_return(before: f64, now: f64) -> Optional
     Optional::Absent
 }
 
+#[tactic(auto, unfolding(crate::specs::Volatility::square_from, crate::specs::Tally::term_of))]
 fn term_of(term: Term, r: f64) -> f64
     ensures { result ≡ term_of term r }
 {
@@ -67,21 +69,20 @@ fn tally_of(
 {
     let mut count: u64 = 0;
     let mut total = 0.0;
-    let mut i = first;
     let mut before = close_at(rows, slots, held, start, first);
-    while i < last {
-        i = i + 1;
-        let now = close_at(rows, slots, held, start, i);
+    for i in first..last {
+        let now = close_at(rows, slots, held, start, i + 1);
         let change = simple_return(before, now);
         if let Optional::Of(r) = change {
-            count = count + 1;
-            total = total + term_of(term, r);
+            count += 1;
+            total += term_of(term, r);
         }
         before = now;
     }
     Tally { count, total }
 }
 
+#[tactic(auto, unfolding(crate::specs::Volatility::if_positive))]
 fn if_positive(sd: f64) -> Optional
     ensures { result ≡ if_positive sd }
 {

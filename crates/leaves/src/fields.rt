@@ -95,16 +95,12 @@ pub(crate) fn closed_words(exit: Exit) -> [u64; 8] {
     }
 }
 
-fn bit(b: bool) -> u64 {
-    if b { 1 } else { 0 }
-}
-
 pub(crate) fn state_words(case: &[u64]) -> [u64; 3] {
     let pf = cases::portfolio(case, 1);
     let equity = pf.equity(cases::float(case, 0, 7));
     [
         floats::word_of(equity),
-        bit(pf.in_position()),
-        bit(pf.is_long()),
+        u64::from(pf.in_position()),
+        u64::from(pf.is_long()),
     ]
 }

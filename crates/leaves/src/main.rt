@@ -32,12 +32,6 @@ fn closes_at(case: &[u64]) -> usize
     }
 }
 
-fn smaller(a: usize, b: usize) -> usize
-    ensures { result ≤ b }
-{
-    if a < b { a } else { b }
-}
-
 // How many closes a case has, and no more than there are rows for.
 fn closes(case: &[u64], most: usize) -> usize
     ensures { result ≤ most }
@@ -46,7 +40,7 @@ fn closes(case: &[u64], most: usize) -> usize
     if at == 0 {
         return 0;
     }
-    smaller(cases::word(case, at, 0) as usize, most)
+    most.min(cases::word(case, at, 0) as usize)
 }
 
 // Puts each close of a case into its row, and says how many words the rows have.

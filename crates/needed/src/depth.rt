@@ -1,5 +1,5 @@
 // How many rows a rule needs, so that the row room can be measured before anything runs.
-ghost use Rattle.std.specs.Prelude.{◌≡◌, max, ◌<◌};
+ghost use Rattle.std.specs.Prelude.{◌≡◌, ◌<◌};
 ghost use Rattle.table.specs.Checked.{checked};
 ghost use Rattle.table.specs.Depth.{row_bytes};
 ghost use Rattle.needed.specs.Depth.{depth_answer};
@@ -19,12 +19,6 @@ pub enum DepthAnswer {
 
 // The number of that setting.
 pub const SETTING_LOOKBACK: u64 = 7;
-
-fn larger(a: u64, b: u64) -> u64
-    ensures { result ≡ max a b }
-{
-    if a < b { b } else { a }
-}
 
 // How many bytes a row of a table's width takes.
 fn row_bytes(t: &[u8]) -> u64
@@ -48,7 +42,7 @@ pub fn depth(t: &[u8], lookback: u64) -> DepthAnswer
                     place: SETTING_LOOKBACK,
                 });
             }
-            let needed = larger(rows, lookback + 1);
+            let needed = rows.max(lookback + 1);
             let row = row_bytes(t);
             DepthAnswer::Needs {
                 rows: needed,

@@ -7,7 +7,8 @@ use Rattle.table.specs.{declared.places.Place.Place, declared.places.Place.TheVa
 use Rattle.table.specs.{declared.answer.Answer.Answer, declared.answer.Answer.TheVariants.Accepted, declared.answer.Answer.TheVariants.Refused}
 use Rattle.table.specs.{Bytes.u16, Header.total, Header.header_refusal, Header.root, Nodes.wrong_node, Checked.or_refused, Checked.or_header, Checked.from9}
 use Rattle.table.specs.{Checked.from8, Checked.from7, Checked.checked_up_to, Ends.ends_for, Ends.end_at, Ends.from, Ends.end_of_node, Ends.ends_all, Ends.Linked}
-use Rattle.table.specs.{Passes.EndedFrom, Passes.Roots, Passes.EndedAll, Passes.LinkedAll, Laws.Ends.from_long, Laws.Ends.from_at}
+use Rattle.table.specs.{Passes.EndedFrom, declared.trees.Roots.Roots, Passes.AreRoots, Passes.EndedAll, Passes.LinkedAll, Laws.Ends.from_long}
+use Rattle.table.specs.{Laws.Ends.from_at}
 use Rattle.table.specs.{Laws.Header.header_right}
 use Rattle.table.proofs.{Linked.end_word}
 
@@ -47,10 +48,10 @@ unfolding ends_for
 keep_accepted a ends n r ha = rw ha (refl, refl)
 
 -- A header that breaks no rule gives the four trees' places.
-pub head_roots : (newest : ℕ) (t : List ℕ) (a b c e : ℕ) → header_refusal newest t ≡ 0 → a ≡ root t 1 → b ≡ root t 2
-    → c ≡ root t 3 → e ≡ total t → Roots t a b c e
+pub head_roots : (newest : ℕ) (t : List ℕ) (roots : Roots) → header_refusal newest t ≡ 0 → roots.exit ≡ root t 1 → roots.short_entry ≡ root t 2
+    → roots.short_exit ≡ root t 3 → roots.end ≡ total t → AreRoots t roots
 unfolding root
-head_roots newest t a b c e h ha hb hc he =
+head_roots newest t roots h ha hb hc he =
     let k = header_right newest t h in
     record {
       one = ha;
@@ -78,20 +79,21 @@ part t ends b e j x w same small l k lo other = ⊎_elim
     (λ z. simp (lt-ltb j x (omega arith)) (low_word t ends b e j small l k lo (omega arith) ∙ ap (λ (y : ℕ). end_at t (y - j) j) same))
     (eq-zero-or-pos (e - j))
 
-end_at_lem : (t ends : List ℕ) (a b c e : ℕ) → Roots t a b c e → EndedAll t ends a b c e → LinkedAll t ends a b c e → (j : ℕ) → get_or ends j 0 ≡ end_of_node t j
+end_at_lem : (t ends : List ℕ) (roots : Roots) → AreRoots t roots → EndedAll t ends roots → LinkedAll t ends roots → (j : ℕ) → get_or ends j 0 ≡ end_of_node t j
 unfolding end_of_node
-end_at_lem t ends a b c e k all l j =
-    part t ends 0 a j (root t 1) _ k.one (omega arith) l.entry.links all.entry (omega arith)
-    (λ h1. part t ends a b j (root t 2) _ k.two (omega arith) l.exit.links all.exit h1
-    (λ h2. part t ends b c j (root t 3) _ k.three (omega arith) l.short_entry.links all.short_entry h2
-    (λ h3. part t ends c e j (root t 4) 0 k.four (omega arith) l.short_exit.links all.short_exit h3
+end_at_lem t ends roots k all l j =
+    part t ends 0 roots.exit j (root t 1) _ k.one (omega arith) l.entry.links all.entry (omega arith)
+    (λ h1. part t ends roots.exit roots.short_entry j (root t 2) _ k.two (omega arith) l.exit.links all.exit h1
+    (λ h2. part t ends roots.short_entry roots.short_exit j (root t 3) _ k.three (omega arith) l.short_entry.links all.short_entry h2
+    (λ h3. part t ends roots.short_exit roots.end j (root t 4) 0 k.four (omega arith) l.short_exit.links all.short_exit h3
     (λ h4. all.past j h4))))
 
-pub ends_are : (t ends : List ℕ) (a b c e : ℕ) → Roots t a b c e → EndedAll t ends a b c e → LinkedAll t ends a b c e → ends ≡ ends_all t
+pub ends_are : (t ends : List ℕ) (roots : Roots) → AreRoots t roots → EndedAll t ends roots → LinkedAll t ends roots → ends ≡ ends_all t
 unfolding ends_all
-ends_are t ends a b c e k all l =
+ends_are t ends roots k all l =
     ext_get_or 0 ends (from (end_of_node t) most_nodes 0) (all.long ∙ sym (from_long (end_of_node t) most_nodes 0))
-    (λ j h. end_at_lem t ends a b c e k all l j ∙ ap (end_of_node t) (sym (zero-add j)) ∙ sym (from_at (end_of_node t) 0 most_nodes 0 j (omega (arith, all.long))))
+    (λ j h. end_at_lem t ends roots k all l j ∙ ap (end_of_node t) (sym (zero-add j)) ∙
+    sym (from_at (end_of_node t) 0 most_nodes 0 j (omega (arith, all.long))))
 
 module _ (newest : ℕ) (t : List ℕ) (x : Answer) (es ends : List ℕ) where
   right : (x ≡ or_header (header_refusal newest t) (or_refused 6 (wrong_node t (u16 t 6) 0) (from7 t)))

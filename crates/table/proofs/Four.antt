@@ -7,7 +7,8 @@ use Rattle.table.specs.{declared.places.Place.Place, declared.places.Place.TheVa
 use Rattle.table.specs.{declared.answer.Answer.TheVariants.Accepted, declared.answer.Answer.TheVariants.Refused, Bytes.u16, Header.count, Header.root}
 use Rattle.table.specs.{Nodes.sort_at, Order.fits, Order.misfit, Order.first_place, Order.of_four, Order.misfits, Forest.trees, Forest.forest_of}
 use Rattle.table.specs.{Nesting.deeper, Nesting.too_deep, Reach.forest_reach, Reach.tree_reach, Reach.too_far, Reach.rows_needed, Reach.far_at}
-use Rattle.table.specs.{Checked.or_refused, Checked.from9, Passes.Ended, Passes.EndedFrom, Passes.Ordered, Passes.Roots, Passes.EndedAll}
+use Rattle.table.specs.{Checked.or_refused, Checked.from9, Passes.Ended, Passes.EndedFrom, Passes.Ordered, declared.trees.Roots.Roots, Passes.AreRoots}
+use Rattle.table.specs.{Passes.EndedAll}
 use Rattle.table.specs.{Passes.LinkedTree, Passes.LinkedAll, Passes.misfit_from, Laws.Accepted.of_four_lem, Laws.Order.first_sort, Laws.Order.never_at}
 use Rattle.table.proofs.{Prefix.fits_two, Prefix.fits_soon, Prefix.pass, Linked.linked, Linked.word_end}
 
@@ -15,24 +16,25 @@ root-zero : (t : List ℕ) → 0 ≡ root t 0
 unfolding root
 root-zero t = refl
 
-module _ (t : List ℕ) (a b c e : ℕ) (k : Roots t a b c e) where
-  n0 : a - 0 ≡ count t 0
+module _ (t : List ℕ) (roots : Roots) (k : AreRoots t roots) where
+  n0 : roots.exit - 0 ≡ count t 0
   unfolding root
   n0 = omega (arith, k.one)
 
-  n1 : b - a ≡ count t 1
+  n1 : roots.short_entry - roots.exit ≡ count t 1
   unfolding root
   n1 = omega (arith, k.one, k.two)
 
-  n2 : c - b ≡ count t 2
+  n2 : roots.short_exit - roots.short_entry ≡ count t 2
   unfolding root
   n2 = omega (arith, k.two, k.three)
 
-  n3 : e - c ≡ count t 3
+  n3 : roots.end - roots.short_exit ≡ count t 3
   unfolding root
   n3 = omega (arith, k.three, k.four)
 
-  pub four : (f : ℕ → ℕ → Place) (p q r s : Place) → p ≡ f (a - 0) 0 → q ≡ f (b - a) a → r ≡ f (c - b) b → s ≡ f (e - c) c
+  pub four : (f : ℕ → ℕ → Place) (p q r s : Place) → p ≡ f (roots.exit - 0) 0 → q ≡ f (roots.short_entry - roots.exit) roots.exit
+      → r ≡ f (roots.short_exit - roots.short_entry) roots.short_entry → s ≡ f (roots.end - roots.short_exit) roots.short_exit
       → first_place p q r s ≡ of_four (λ x. f (count t x) (root t x))
   unfolding of_four
   four f p q r s hp hq hr hs =
@@ -42,31 +44,36 @@ module _ (t : List ℕ) (a b c e : ℕ) (k : Roots t a b c e) where
       let o3 : s ≡ f (count t 3) (root t 3) = cc (n3, k.three) in
       cc
 
-  pub four_misfits : (p q r s : Place) → p ≡ misfit t (a - 0) 0 → q ≡ misfit t (b - a) a → r ≡ misfit t (c - b) b → s ≡ misfit t (e - c) c
+  pub four_misfits : (p q r s : Place) → p ≡ misfit t (roots.exit - 0) 0 → q ≡ misfit t (roots.short_entry - roots.exit) roots.exit
+      → r ≡ misfit t (roots.short_exit - roots.short_entry) roots.short_entry → s ≡ misfit t (roots.end - roots.short_exit) roots.short_exit
       → first_place p q r s ≡ misfits t
   unfolding misfits
   four_misfits p q r s hp hq hr hs = four (misfit t) p q r s hp hq hr hs
 
-  pub four_deep : (p q r s : Place) → p ≡ deeper 32 (trees t (a - 0) 0) → q ≡ deeper 32 (trees t (b - a) a)
-      → r ≡ deeper 32 (trees t (c - b) b) → s ≡ deeper 32 (trees t (e - c) c)
+  pub four_deep : (p q r s : Place) → p ≡ deeper 32 (trees t (roots.exit - 0) 0) → q ≡ deeper 32 (trees t (roots.short_entry - roots.exit) roots.exit)
+      → r ≡ deeper 32 (trees t (roots.short_exit - roots.short_entry) roots.short_entry)
+      → s ≡ deeper 32 (trees t (roots.end - roots.short_exit) roots.short_exit)
       → first_place p q r s ≡ too_deep t
   unfolding too_deep forest_of
   four_deep p q r s hp hq hr hs = four (λ m i. deeper 32 (trees t m i)) p q r s hp hq hr hs
 
-  pub four_far : (p q r s : Place) → p ≡ far_at (forest_reach (trees t (a - 0) 0)) 0 → q ≡ far_at (forest_reach (trees t (b - a) a)) a
-      → r ≡ far_at (forest_reach (trees t (c - b) b)) b → s ≡ far_at (forest_reach (trees t (e - c) c)) c
+  pub four_far : (p q r s : Place) → p ≡ far_at (forest_reach (trees t (roots.exit - 0) 0)) 0
+      → q ≡ far_at (forest_reach (trees t (roots.short_entry - roots.exit) roots.exit)) roots.exit
+      → r ≡ far_at (forest_reach (trees t (roots.short_exit - roots.short_entry) roots.short_entry)) roots.short_entry
+      → s ≡ far_at (forest_reach (trees t (roots.end - roots.short_exit) roots.short_exit)) roots.short_exit
       → first_place p q r s ≡ too_far t
   unfolding too_far forest_of tree_reach far_at
   four_far p q r s hp hq hr hs = four (λ m i. far_at (forest_reach (trees t m i)) i) p q r s hp hq hr hs
 
-pub order_four : (t : List ℕ) (a b c e : ℕ) (z w x y r : List ℕ) → Roots t a b c e → ((j : ℕ) → get_or z j 0 ≡ 0) → length r ≡ most_nodes
-    → Ordered t 0 a z w → Ordered t a b w x → Ordered t b c x y → Ordered t c e y r → EndedAll t r a b c e
+pub order_four : (t : List ℕ) (roots : Roots) (z w x y r : List ℕ) → AreRoots t roots → ((j : ℕ) → get_or z j 0 ≡ 0) → length r ≡ most_nodes
+    → Ordered t 0 roots.exit z w → Ordered t roots.exit roots.short_entry w x → Ordered t roots.short_entry roots.short_exit x y
+    → Ordered t roots.short_exit roots.end y r → EndedAll t r roots
 unfolding EndedFrom
-order_four t a b c e z w x y r k zero' long o0 o1 o2 o3 =
+order_four t roots z w x y r k zero' long o0 o1 o2 o3 =
     record {
-      entry = λ j lo hi. subst (λ (v : ℕ). Ended t a j v) (sym (o3.below j (omega arith) ∙ o2.below j (omega arith) ∙ o1.below j hi)) (o0.known j lo hi);
-      exit = λ j lo hi. subst (λ (v : ℕ). Ended t b j v) (sym (o3.below j (omega arith) ∙ o2.below j hi)) (o1.known j lo hi);
-      short_entry = λ j lo hi. subst (λ (v : ℕ). Ended t c j v) (sym (o3.below j hi)) (o2.known j lo hi);
+      entry = λ j lo hi. subst (Ended t roots.exit j) (sym (o3.below j (omega arith) ∙ o2.below j (omega arith) ∙ o1.below j hi)) (o0.known j lo hi);
+      exit = λ j lo hi. subst (λ (v : ℕ). Ended t roots.short_entry j v) (sym (o3.below j (omega arith) ∙ o2.below j hi)) (o1.known j lo hi);
+      short_entry = λ j lo hi. subst (λ (v : ℕ). Ended t roots.short_exit j v) (sym (o3.below j hi)) (o2.known j lo hi);
       short_exit = o3.known;
       past = λ j h. o3.above j h ∙ o2.above j (omega arith) ∙ o1.above j (omega arith) ∙ o0.above j (omega arith) ∙ zero' j;
       long = long;
@@ -98,15 +105,15 @@ pub whole_tree : (t ends : List ℕ) (b e : ℕ) → misfit t (e - b) b ≡ Nowh
 whole_tree t ends b e h k = record { links = linked t ends b e h k; ends_at = root_end t ends b e h k }
 
 -- The four trees keep rule 7 together just where each does.
-pub linked_all : (t ends : List ℕ) (a b c e : ℕ) → Roots t a b c e → EndedAll t ends a b c e → misfits t ≡ Nowhere → LinkedAll t ends a b c e
+pub linked_all : (t ends : List ℕ) (roots : Roots) → AreRoots t roots → EndedAll t ends roots → misfits t ≡ Nowhere → LinkedAll t ends roots
 unfolding misfits
-linked_all t ends a b c e k all h =
+linked_all t ends roots k all h =
     let fine = of_four_lem (λ x. misfit t (count t x) (root t x)) h in
     record {
-      entry = whole_tree t ends 0 a (cc (n0 t a b c e k, root-zero t, fine 0 (omega arith))) all.entry;
-      exit = whole_tree t ends a b (cc (n1 t a b c e k, k.one, fine 1 (omega arith))) all.exit;
-      short_entry = whole_tree t ends b c (cc (n2 t a b c e k, k.two, fine 2 (omega arith))) all.short_entry;
-      short_exit = whole_tree t ends c e (cc (n3 t a b c e k, k.three, fine 3 (omega arith))) all.short_exit;
+      entry = whole_tree t ends 0 roots.exit (cc (n0 t roots k, root-zero t, fine 0 (omega arith))) all.entry;
+      exit = whole_tree t ends roots.exit roots.short_entry (cc (n1 t roots k, k.one, fine 1 (omega arith))) all.exit;
+      short_entry = whole_tree t ends roots.short_entry roots.short_exit (cc (n2 t roots k, k.two, fine 2 (omega arith))) all.short_entry;
+      short_exit = whole_tree t ends roots.short_exit roots.end (cc (n3 t roots k, k.three, fine 3 (omega arith))) all.short_exit;
     }
 
 -- A reach capped at 4,096 tells as much.
@@ -147,22 +154,26 @@ most_low w x y z a b c d = below (omega arith) (omega arith)
     below : max w x ≤ most_rows → max y z ≤ most_rows → min (max (max w x) (max y z)) most_rows ≡ max (max w x) (max y z)
     below p q = omega arith
 
-module _ (t : List ℕ) (a b c e : ℕ) (k : Roots t a b c e) where
-  pub fars_are : (w x y z : ℕ) (f : Place) → w ≡ min (forest_reach (trees t (a - 0) 0)) most_rows → x ≡ min (forest_reach (trees t (b - a) a)) most_rows
-      → y ≡ min (forest_reach (trees t (c - b) b)) most_rows → z ≡ min (forest_reach (trees t (e - c) c)) most_rows
-      → f ≡ first_place (far_at w 0) (far_at x a) (far_at y b) (far_at z c) → f ≡ too_far t
-  fars_are w x y z f hw hx hy hz hf = hf ∙ four_far t a b c e k _ _ _ _ (far_capped _ 0 w hw) (far_capped _ a x hx) (far_capped _ b y hy) (far_capped _ c z hz)
+module _ (t : List ℕ) (roots : Roots) (k : AreRoots t roots) where
+  pub fars_are : (w x y z : ℕ) (f : Place) → w ≡ min (forest_reach (trees t (roots.exit - 0) 0)) most_rows
+      → x ≡ min (forest_reach (trees t (roots.short_entry - roots.exit) roots.exit)) most_rows
+      → y ≡ min (forest_reach (trees t (roots.short_exit - roots.short_entry) roots.short_entry)) most_rows
+      → z ≡ min (forest_reach (trees t (roots.end - roots.short_exit) roots.short_exit)) most_rows
+      → f ≡ first_place (far_at w 0) (far_at x roots.exit) (far_at y roots.short_entry) (far_at z roots.short_exit) → f ≡ too_far t
+  fars_are w x y z f hw hx hy hz hf = hf ∙ four_far t roots k _ _ _ _ (far_capped _ 0 w hw) (far_capped _ _ x hx) (far_capped _ _ y hy) (far_capped _ _ z hz)
 
-  pub rows_are : (w x y z r : ℕ) → w ≡ min (forest_reach (trees t (a - 0) 0)) most_rows → x ≡ min (forest_reach (trees t (b - a) a)) most_rows
-      → y ≡ min (forest_reach (trees t (c - b) b)) most_rows → z ≡ min (forest_reach (trees t (e - c) c)) most_rows → too_far t ≡ Nowhere
+  pub rows_are : (w x y z r : ℕ) → w ≡ min (forest_reach (trees t (roots.exit - 0) 0)) most_rows
+      → x ≡ min (forest_reach (trees t (roots.short_entry - roots.exit) roots.exit)) most_rows
+      → y ≡ min (forest_reach (trees t (roots.short_exit - roots.short_entry) roots.short_entry)) most_rows
+      → z ≡ min (forest_reach (trees t (roots.end - roots.short_exit) roots.short_exit)) most_rows → too_far t ≡ Nowhere
       → r ≡ min (max (max w x) (max y z)) most_rows + 1 → r ≡ rows_needed t
   unfolding too_far rows_needed tree_reach forest_of far_at
   rows_are w x y z r hw hx hy hz none hr =
       let near = of_four_lem (λ i. far_at (tree_reach t i) (root t i)) none in
-      let w0 : w ≡ min (tree_reach t 0) most_rows = cc (n0 t a b c e k, root-zero t) in
-      let x0 : x ≡ min (tree_reach t 1) most_rows = cc (n1 t a b c e k, k.one) in
-      let y0 : y ≡ min (tree_reach t 2) most_rows = cc (n2 t a b c e k, k.two) in
-      let z0 : z ≡ min (tree_reach t 3) most_rows = cc (n3 t a b c e k, k.three) in
+      let w0 : w ≡ min (tree_reach t 0) most_rows = cc (n0 t roots k, root-zero t) in
+      let x0 : x ≡ min (tree_reach t 1) most_rows = cc (n1 t roots k, k.one) in
+      let y0 : y ≡ min (tree_reach t 2) most_rows = cc (n2 t roots k, k.two) in
+      let z0 : z ≡ min (tree_reach t 3) most_rows = cc (n3 t roots k, k.three) in
       hr ∙ ap (λ (n : ℕ). n + 1)
       (most_low w x y z (capped_small w _ w0) (capped_small x _ x0) (capped_small y _ y0) (capped_small z _ z0) ∙
       most_four w x y z _ _ _ _ (kept _ _ w w0 (near 0 (omega arith))) (kept _ _ x x0 (near 1 (omega arith)))

@@ -3,7 +3,7 @@
 use Rattle.words.specs.Prelude.{◌≡◌, refl, sym, ◌∙◌, ap, subst, ⊎_elim, ◌≢◌, List, ℕ, zero, suc, ◌+◌, ◌-◌, ◌≤◌, ◌<◌, max, min, arith, le_trans, eq-or-lt_of_le}
 use Rattle.words.specs.Prelude.{eq-zero-or-pos, length, get_or, set, get_or-set_same, get_or-set_other}
 use Rattle.words.specs.{Limits.most_rows}
-use Rattle.table.specs.{declared.nodes.Node.Node, declared.places.Place.Place, declared.places.Place.TheVariants.Nowhere}
+use Rattle.table.specs.{declared.weighing.Weight.Weight, declared.nodes.Node.Node, declared.places.Place.Place, declared.places.Place.TheVariants.Nowhere}
 use Rattle.table.specs.{declared.places.Place.TheVariants.At, Nodes.node_at, Nodes.child_count_at, Order.or_place, Forest.Forest, Forest.none, Forest.tree}
 use Rattle.table.specs.{Forest.first_trees, Forest.other_trees, Forest.node_over, Forest.trees, Nesting.deeper, Reach.weigh, Reach.own_back}
 use Rattle.table.specs.{Reach.forest_reach, Ends.Link, Ends.Linked, Passes.WordsFrom, Passes.Most, Passes.weight, Laws.Forest.left_suc}
@@ -119,12 +119,12 @@ deeper_split zero (suc k) (tree n below rest) = refl
 deeper_split (suc l) (suc k) (tree n below rest) =
     ap (λ (p : Place). or_place (deeper l below) p) (deeper_split (suc l) k rest) ∙ or_or (deeper l below) _ _
 
-shallow : (l : ℕ) (f : Forest) → weigh (weight 0) f ≤ l → deeper l f ≡ Nowhere
+shallow : (l : ℕ) (f : Forest) → weigh (weight Weight.Levels) f ≤ l → deeper l f ≡ Nowhere
 unfolding deeper or_place weigh weight
 shallow l none h = refl
 shallow zero (tree n below rest) h = absurd (never h)
   where
-    never : max (1 + weigh (weight 0) below) (weigh (weight 0) rest) ≤ 0 → ⊥
+    never : max (1 + weigh (weight Weight.Levels) below) (weigh (weight Weight.Levels) rest) ≤ 0 → ⊥
     never h' = omega arith
 shallow (suc l) (tree n below rest) h = rw (shallow l below (omega arith), shallow (suc l) rest (omega arith))
 
@@ -133,7 +133,7 @@ unfolding or_place
 or_found Nowhere p = (p, refl)
 or_found (At x) p = (x, refl)
 
-found : (l : ℕ) (f : Forest) → l < weigh (weight 0) f → (p : ℕ) × (deeper l f ≡ At p)
+found : (l : ℕ) (f : Forest) → l < weigh (weight Weight.Levels) f → (p : ℕ) × (deeper l f ≡ At p)
 unfolding deeper or_place weigh weight
 found l none h = absurd (never h)
   where
@@ -144,7 +144,7 @@ found (suc l) (tree n below rest) h =
     ⊎_elim
     (λ z. let g = found (suc l) rest (omega arith) in let r = or_found (deeper l below) g.0 in (r.0, rw g.1 r.1))
     (λ z. let g = found l below (omega arith) in (g.0, rw g.1))
-    (eq-zero-or-pos (weigh (weight 0) below - l))
+    (eq-zero-or-pos (weigh (weight Weight.Levels) below - l))
 
 module _ (t : List ℕ) (e j left : ℕ) where
   pub deep_here : j < e → left ≡ 0 → At j ≡ deeper left (trees t (e - j) j)
@@ -155,7 +155,7 @@ module _ (t : List ℕ) (e j left : ℕ) where
   unfolding deeper trees
   deep_end h = rw (left_zero e j h)
 
-  module _ (x : ℕ) (h : j < e) (word : x ≡ min (weigh (weight 0) (first_trees 1 (trees t (e - j) j))) most_rows) (some : left ≡ 0 → ⊥) where
+  module _ (x : ℕ) (h : j < e) (word : x ≡ min (weigh (weight Weight.Levels) (first_trees 1 (trees t (e - j) j))) most_rows) (some : left ≡ 0 → ⊥) where
     pred : left ≡ suc (left - 1)
     pred = omega arith
 
@@ -165,9 +165,9 @@ module _ (t : List ℕ) (e j left : ℕ) where
     above : Forest
     above = other_trees (child_count_at t j) (trees t (e - (j + 1)) (j + 1))
 
-    own : weigh (weight 0) (first_trees 1 (trees t (e - j) j)) ≡ 1 + weigh (weight 0) below
+    own : weigh (weight Weight.Levels) (first_trees 1 (trees t (e - j) j)) ≡ 1 + weigh (weight Weight.Levels) below
     unfolding weight below
-    own = first_weight (weight 0) t j e h
+    own = first_weight (weight Weight.Levels) t j e h
 
     two : deeper left (trees t (e - j) j) ≡ or_place (deeper (left - 1) below) (deeper left above)
     unfolding deeper trees node_over below above
@@ -202,7 +202,7 @@ unfolding weigh first_trees other_trees
 weigh_two w none = refl
 weigh_two w (tree n below rest) = omega arith
 
-pub reach_one : (t : List ℕ) (b e x v : ℕ) → x ≡ min (weigh (weight 1) (first_trees 1 (trees t (e - b) b))) most_rows
+pub reach_one : (t : List ℕ) (b e x v : ℕ) → x ≡ min (weigh (weight Weight.Bars) (first_trees 1 (trees t (e - b) b))) most_rows
     → Link t e b v → v ≡ e → x ≡ min (forest_reach (trees t (e - b) b)) most_rows
 unfolding forest_reach weigh weight trees
 reach_one t b e x v word k all = omega (arith, word, weigh_two own_back (trees t (e - b) b), none_after)

@@ -1,6 +1,7 @@
 -- The table of kinds: what a node of each kind takes. `Named` has the kinds by name. Definitions only.
-use Rattle.std.specs.Prelude.{List, [], ◌∷◌, ℕ, Bool, ◌&&◌, eqb, get_or}
+use Rattle.std.specs.Prelude.{List, [], ◌∷◌, ℕ, Bool, true, false, ◌&&◌, eqb, get_or}
 use Rattle.table.specs.{declared.kinds.Kind.Kind, declared.kinds.OperandClass.OperandClass, declared.kinds.ConditionClass.ConditionClass}
+use Rattle.table.specs.{declared.kinds.Children.Children, declared.kinds.NumberUse.NumberUse, declared.kinds.Back.Back, declared.kinds.SeriesRole.SeriesRole}
 use Rattle.table.specs.{declared.kinds.Row.Row, declared.kinds.OperandClass.TheVariants.NoOperand, declared.kinds.OperandClass.TheVariants.Const}
 use Rattle.table.specs.{declared.kinds.OperandClass.TheVariants.Ref, declared.kinds.OperandClass.TheVariants.Price}
 use Rattle.table.specs.{declared.kinds.OperandClass.TheVariants.Prev, declared.kinds.OperandClass.TheVariants.Arith}
@@ -20,78 +21,63 @@ operand = 1
 abbrev pub condition : ℕ
 condition = 2
 
--- What stands below a node: how many children, and of which sort. 255 children: as many as the node says.
+-- What stands below a node: how many children, and of which sort.
 pub record Takes : Type 0 where
-  pub children : ℕ
+  pub children : Children
   pub sort : ℕ
 
 abbrev pub leaf : Takes
-leaf = record { children = 0; sort = 0 }
+leaf = record { children = Children.Exactly 0; sort = 0 }
 
 abbrev pub operands : ℕ → Takes
-operands m = record { children = m; sort = operand }
+operands m = record { children = Children.Exactly m; sort = operand }
 
-abbrev pub conditions : ℕ → Takes
-conditions m = record { children = m; sort = condition }
+abbrev pub conditions : Children → Takes
+conditions many = record { children = many; sort = condition }
 
-abbrev pub as_written : ℕ
-as_written = 255
-
--- Which fields a node uses beside its kind. An unused selector has one value, zero; n is unused (0), a slot (1), any
--- number (2) or how many bars (3); the constant is unused (0) or used (1).
+-- Which fields a node uses beside its kind. An unused selector has one value, zero; n is unused, a slot, any number or how many bars; and
+-- whether the constant is used.
 pub record Uses : Type 0 where
   pub selectors : ℕ
-  pub n : ℕ
-  pub constant : ℕ
+  pub n : NumberUse
+  pub constant : Bool
 
 abbrev pub kind_alone : Uses
-kind_alone = record { selectors = 1; n = 0; constant = 0 }
+kind_alone = record { selectors = 1; n = NumberUse.Unused; constant = false }
 
 abbrev pub the_constant : Uses
-the_constant = record { selectors = 1; n = 0; constant = 1 }
+the_constant = record { selectors = 1; n = NumberUse.Unused; constant = true }
 
 abbrev pub slot_below_k : Uses
-slot_below_k = record { selectors = 1; n = 1; constant = 0 }
+slot_below_k = record { selectors = 1; n = NumberUse.Slot; constant = false }
 
 abbrev pub its_number : Uses
-its_number = record { selectors = 1; n = 2; constant = 0 }
+its_number = record { selectors = 1; n = NumberUse.AnyNumber; constant = false }
 
 abbrev pub how_many_bars : Uses
-how_many_bars = record { selectors = 1; n = 3; constant = 0 }
+how_many_bars = record { selectors = 1; n = NumberUse.BarCount; constant = false }
 
 abbrev pub selector_below : ℕ → Uses
-selector_below m = record { selectors = m; n = 0; constant = 0 }
+selector_below m = record { selectors = m; n = NumberUse.Unused; constant = false }
 
 abbrev pub number_and_selector_below : ℕ → Uses
-number_and_selector_below m = record { selectors = m; n = 2; constant = 0 }
+number_and_selector_below m = record { selectors = m; n = NumberUse.AnyNumber; constant = false }
 
--- What a node adds to the reach: "Prev, Rising and Falling add n, a cross adds 1".
-abbrev pub nothing : ℕ
-nothing = 0
+-- "one child that must be a Price or a Ref": such a child is a series; Highest and Lowest take one.
+abbrev pub is_series : SeriesRole → Bool
+is_series SeriesRole.Neither = false
+is_series SeriesRole.Series = true
+is_series SeriesRole.OverSeries = false
 
-abbrev pub its_n : ℕ
-its_n = 1
+abbrev pub takes_series : SeriesRole → Bool
+takes_series SeriesRole.Neither = false
+takes_series SeriesRole.Series = false
+takes_series SeriesRole.OverSeries = true
 
-abbrev pub one_bar : ℕ
-one_bar = 2
-
--- "The reach is n − 1 plus the child's."
-abbrev pub bars_before : ℕ
-bars_before = 3
-
--- "one child that must be a Price or a Ref": such a child is a series.
-abbrev pub neither : ℕ
-neither = 0
-
-abbrev pub a_series : ℕ
-a_series = 1
-
-abbrev pub over_a_series : ℕ
-over_a_series = 2
-
+-- What a node adds to the reach, a `Back`: "Prev, Rising and Falling add n, a cross adds 1"; "the reach is n − 1 plus the child's".
 -- A row: the class of the node, what stands below it, which fields it uses, what it adds to the reach, whether it is a series or
 -- takes one.
-abbrev pub row : OperandClass → ConditionClass → ℕ → Takes → Uses → ℕ → ℕ → Kind
+abbrev pub row : OperandClass → ConditionClass → ℕ → Takes → Uses → Back → SeriesRole → Kind
 row o c sort takes uses back series =
     record {
       operand = o;
@@ -106,14 +92,14 @@ row o c sort takes uses back series =
       series = series;
     }
 
-abbrev pub an_operand : OperandClass → Takes → Uses → ℕ → Kind
-an_operand class takes uses back = row class NoCondition operand takes uses back neither
+abbrev pub an_operand : OperandClass → Takes → Uses → Back → Kind
+an_operand class takes uses back = row class NoCondition operand takes uses back SeriesRole.Neither
 
 abbrev pub a_leaf_of_each_row : OperandClass → Uses → Kind
-a_leaf_of_each_row class uses = row class NoCondition operand leaf uses nothing a_series
+a_leaf_of_each_row class uses = row class NoCondition operand leaf uses Back.Nothing SeriesRole.Series
 
-abbrev pub a_condition : ConditionClass → Takes → Uses → ℕ → Kind
-a_condition class takes uses back = row NoOperand class condition takes uses back neither
+abbrev pub a_condition : ConditionClass → Takes → Uses → Back → Kind
+a_condition class takes uses back = row NoOperand class condition takes uses back SeriesRole.Neither
 
 -- ---- the rows
 
@@ -123,10 +109,10 @@ a_condition class takes uses back = row NoOperand class condition takes uses bac
 -- more conditions); 29 Not (one condition); 30 InPosition (selector 0 or 1); 31 BarsSinceEntry (selector 0..4: Gt, Lt, Ge,
 -- Le, Eq; n = k)."
 abbrev pub no_kind : Kind
-no_kind = row NoOperand NoCondition 0 leaf (selector_below 0) nothing neither
+no_kind = row NoOperand NoCondition 0 leaf (selector_below 0) Back.Nothing SeriesRole.Neither
 
 abbrev pub constant : Kind
-constant = an_operand Const leaf the_constant nothing
+constant = an_operand Const leaf the_constant Back.Nothing
 
 abbrev pub reference : Kind
 reference = a_leaf_of_each_row Ref slot_below_k
@@ -135,41 +121,41 @@ abbrev pub price : Kind
 price = a_leaf_of_each_row Price (selector_below 7)
 
 abbrev pub previous : Kind
-previous = an_operand Prev (operands 1) its_number its_n
+previous = an_operand Prev (operands 1) its_number Back.ItsN
 
 abbrev pub arithmetic : Kind
-arithmetic = an_operand Arith (operands 2) kind_alone nothing
+arithmetic = an_operand Arith (operands 2) kind_alone Back.Nothing
 
 -- "Kinds 9 and 10, Highest and Lowest, take n from 1 to 4,095 and one child that must be a Price or a Ref." (request 8)
 abbrev pub extremum : Kind
-extremum = row Extreme NoCondition operand (operands 1) how_many_bars bars_before over_a_series
+extremum = row Extreme NoCondition operand (operands 1) how_many_bars Back.BarsBefore SeriesRole.OverSeries
 
 abbrev pub comparison : Kind
-comparison = a_condition Compare (operands 2) kind_alone nothing
+comparison = a_condition Compare (operands 2) kind_alone Back.Nothing
 
 abbrev pub crossing : Kind
-crossing = a_condition Cross (operands 2) kind_alone one_bar
+crossing = a_condition Cross (operands 2) kind_alone Back.OneBar
 
 abbrev pub between : Kind
-between = a_condition Between (operands 3) kind_alone nothing
+between = a_condition Between (operands 3) kind_alone Back.Nothing
 
 abbrev pub trend : Kind
-trend = a_condition Trend (operands 1) its_number its_n
+trend = a_condition Trend (operands 1) its_number Back.ItsN
 
 abbrev pub all_of : Kind
-all_of = a_condition All (conditions as_written) kind_alone nothing
+all_of = a_condition All (conditions Children.AsWritten) kind_alone Back.Nothing
 
 abbrev pub any_of : Kind
-any_of = a_condition Any (conditions as_written) kind_alone nothing
+any_of = a_condition Any (conditions Children.AsWritten) kind_alone Back.Nothing
 
 abbrev pub negation : Kind
-negation = a_condition Not (conditions 1) kind_alone nothing
+negation = a_condition Not (conditions (Children.Exactly 1)) kind_alone Back.Nothing
 
 abbrev pub position : Kind
-position = a_condition InPosition leaf (selector_below 2) nothing
+position = a_condition InPosition leaf (selector_below 2) Back.Nothing
 
 abbrev pub bars_since : Kind
-bars_since = a_condition BarsSince leaf (number_and_selector_below 5) nothing
+bars_since = a_condition BarsSince leaf (number_and_selector_below 5) Back.Nothing
 
 -- The rows by name.
 unfoldable pub row_named : Row → Kind

@@ -4,7 +4,8 @@ use Rattle.words.specs.{Limits.most_reach}
 use Rattle.floats.specs.{Floats.finite, Floats.float_of}
 use Rattle.table.specs.{declared.kinds.Kind.Kind, declared.nodes.Node.Node, declared.header.Form.Form, declared.places.Place.Place}
 use Rattle.table.specs.{declared.places.Place.TheVariants.Nowhere, declared.places.Place.TheVariants.At, Bytes.u16, Bytes.u32, Bytes.u64, Kinds.kind_of}
-use Rattle.table.specs.{Kinds.as_written, Kinds.a_series, Kinds.over_a_series, Kinds.second_version, Kinds.since_of, Header.form_of}
+use Rattle.table.specs.{declared.kinds.Children.Children, declared.kinds.NumberUse.NumberUse, Kinds.is_series, Kinds.takes_series, Kinds.second_version}
+use Rattle.table.specs.{Kinds.since_of, Header.form_of}
 
 -- "Then 16 bytes a node." "Node: kind (1), selector (1), children (2), n (4), constant bits (8)." The number of the node is
 -- kept beside its fields.
@@ -20,16 +21,20 @@ node_at t i =
     }
 
 -- "Unused fields are zero; only All and Any use children." A field's own row of the kinds says what it is used for.
-unfoldable pub children_right : ℕ → ℕ → Bool
-children_right children takes = cond (eqb takes as_written) true (eqb children 0)
+unfoldable pub children_right : ℕ → Children → Bool
+children_right children Children.AsWritten = true
+children_right children (Children.Exactly many) = eqb children 0
 
 -- n: unused, so zero; a "slot, below K"; "n from 1 to 4,095"; or any number
-unfoldable pub n_right : ℕ → ℕ → ℕ → Bool
-n_right k n used = cond (eqb used 0) (eqb n 0) (cond (eqb used 1) (ltb n k) (cond (eqb used 3) (leb 1 n && leb n most_reach) true))
+unfoldable pub n_right : ℕ → ℕ → NumberUse → Bool
+n_right k n NumberUse.Unused = eqb n 0
+n_right k n NumberUse.Slot = ltb n k
+n_right k n NumberUse.BarCount = leb 1 n && leb n most_reach
+n_right k n NumberUse.AnyNumber = true
 
 -- "Const (constant, finite)"; an unused constant is compared as bits
-unfoldable pub constant_right : ℕ → ℕ → Bool
-constant_right bits used = cond (eqb used 1) (finite (float_of bits)) (eqb bits 0)
+unfoldable pub constant_right : ℕ → Bool → Bool
+constant_right bits used = cond used (finite (float_of bits)) (eqb bits 0)
 
 -- each field as the kind uses it, in a table with k slots
 unfoldable pub fields_right : ℕ → Node → Kind → Bool
@@ -59,8 +64,12 @@ wrong_node t (suc m) i = cond (node_right t i) (wrong_node t m (i + 1)) (At i)
 unfoldable pub sort_at : List ℕ → ℕ → ℕ
 sort_at t i = (kind_of (node_at t i).kind).sort
 
+abbrev pub taken : ℕ → Children → ℕ
+taken written Children.AsWritten = written
+taken written (Children.Exactly many) = many
+
 unfoldable pub child_count : Node → Kind → ℕ
-child_count n w = cond (eqb w.children as_written) n.children w.children
+child_count n w = taken n.children w.children
 
 unfoldable pub child_count_at : List ℕ → ℕ → ℕ
 child_count_at t i = child_count (node_at t i) (kind_of (node_at t i).kind)
@@ -70,7 +79,7 @@ child_sort_at t i = (kind_of (node_at t i).kind).below
 
 -- "one child that must be a Price or a Ref": whether a node may be the child of another, its sort apart
 unfoldable pub child_fits : Kind → Kind → Bool
-child_fits parent child = cond (eqb parent.series over_a_series) (eqb child.series a_series) true
+child_fits parent child = cond (takes_series parent.series) (is_series child.series) true
 
 -- of node i and its first child, which is the node after it
 unfoldable pub child_fits_at : List ℕ → ℕ → Bool

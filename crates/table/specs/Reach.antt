@@ -1,14 +1,21 @@
 -- Rule 9: how far back a tree reads. Definitions only.
-use Rattle.std.specs.Prelude.{cond, List, ℕ, ◌+◌, ◌-◌, max, ltb, eqb}
+use Rattle.std.specs.Prelude.{cond, List, ℕ, ◌+◌, ◌-◌, max, ltb}
 use Rattle.words.specs.{Limits.most_reach}
-use Rattle.table.specs.{declared.kinds.Kind.Kind, declared.nodes.Node.Node, declared.places.Place.Place, declared.places.Place.TheVariants.Nowhere}
+use Rattle.table.specs.{declared.kinds.Kind.Kind, declared.kinds.Back.Back, declared.nodes.Node.Node, declared.places.Place.Place}
+use Rattle.table.specs.{declared.places.Place.TheVariants.Nowhere}
 use Rattle.table.specs.{declared.places.Place.TheVariants.At, Kinds.kind_of, Header.root, Order.of_four, Forest.Forest, Forest.none, Forest.tree}
 use Rattle.table.specs.{Forest.forest_of}
 
 -- "Reach: 0 for leaves, else the greatest child's (0 if none); Prev, Rising and Falling add n, a cross adds 1."
 -- "The reach is n − 1 plus the child's" (request 8). What a node adds stands in its kind's row.
+abbrev pub back_by : ℕ → Back → ℕ
+back_by n Back.Nothing = 0
+back_by n Back.ItsN = n
+back_by n Back.OneBar = 1
+back_by n Back.BarsBefore = n - 1
+
 unfoldable pub back : Node → Kind → ℕ
-back n w = cond (eqb w.back 1) n.n (cond (eqb w.back 2) 1 (cond (eqb w.back 3) (n.n - 1) 0))
+back n w = back_by n.n w.back
 
 unfoldable pub own_back : Node → ℕ
 own_back n = back n (kind_of n.kind)

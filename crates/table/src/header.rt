@@ -58,61 +58,44 @@ pub fn root(t: &[u8], tree: u8) -> usize
     ensures { (result ≡ Header.root t.now tree) × (result ≤ 65535 * tree) }
 {
     let mut at: usize = 0;
-    let mut x: u8 = 0;
-    while x < tree {
+    for x in 0..tree {
         at += count(t, x);
-        x += 1;
     }
     at
 }
 
+#[tactic(auto, unfolding(crate::specs::Header::mark_right))]
 fn mark_right(t: &[u8]) -> bool
     ensures { result ≡ mark_right t.now }
 {
-    if byte(t, 0) != 82 {
-        return false;
-    }
-    if byte(t, 1) != 84 {
-        return false;
-    }
-    byte(t, 2) == 66
+    byte(t, 0) == 82 && byte(t, 1) == 84 && byte(t, 2) == 66
 }
 
+#[tactic(auto, unfolding(crate::specs::Header::counts_right))]
 fn counts_right(t: &[u8]) -> bool
     ensures { result ≡ counts_right t.now }
 {
-    if slots(t) as usize > MOST_SLOTS {
-        return false;
-    }
-    if total(t) < 2 {
-        return false;
-    }
-    if total(t) > MOST_NODES {
-        return false;
-    }
     let entry = count(t, 0);
-    if entry < 1 {
-        return false;
-    }
     let exit = count(t, 1);
-    if exit < 1 {
-        return false;
-    }
-    entry + exit + count(t, 2) + count(t, 3) == total(t)
+    slots(t) as usize <= MOST_SLOTS
+        && 2 <= total(t)
+        && total(t) <= MOST_NODES
+        && 1 <= entry
+        && 1 <= exit
+        && entry + exit + count(t, 2) + count(t, 3) == total(t)
 }
 
 // Whether the version is one that a reader of versions 1 to `newest` reads.
+#[tactic(auto, unfolding(crate::specs::Header::version_right))]
 fn version_right(t: &[u8], newest: usize) -> bool
     ensures { result ≡ version_right newest t.now }
 {
     let version = version(t);
-    if version < 1 {
-        return false;
-    }
-    version <= newest
+    1 <= version && version <= newest
 }
 
 // The first of rules 1 to 5 that the table breaks, or 0, for a reader of versions 1 to `newest`.
+#[tactic(auto, unfolding(crate::specs::Header::header_refusal))]
 pub fn header_refusal(t: &[u8], newest: usize) -> u8
     ensures { result ≡ header_refusal newest t.now }
 {

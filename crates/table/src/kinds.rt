@@ -1,7 +1,7 @@
 // The kinds of nodes by name, and the constant table of kinds: what a node of each kind takes. Checker, reach, evaluator and
 // translator read it.
 ghost use Rattle.std.specs.Prelude.{◌≡◌};
-ghost use Rattle.table.specs.Kinds.{kind_of, row_named, since_of};
+ghost use Rattle.table.specs.Kinds.{kind_of, row_named, since_of, is_series, takes_series};
 
 // The kinds, by number.
 pub const CONST: u8 = 1;
@@ -82,19 +82,68 @@ pub enum ConditionClass {
     BarsSince,
 }
 
+// How many children a node takes: so many, or as many as its own field says.
+#[derive(Clone, Copy, PartialEq, Eq, Debug)]
+pub enum Children {
+    Exactly(u8),
+    AsWritten,
+}
+
+// What n is: unused and so zero, a slot below K, any number, or how many bars: 1 to 4,095.
+#[derive(Clone, Copy, PartialEq, Eq, Debug)]
+pub enum NumberUse {
+    Unused,
+    Slot,
+    AnyNumber,
+    BarCount,
+}
+
+// What the node adds to the reach: nothing, its n, one bar, or one bar less than its n.
+#[derive(Clone, Copy, PartialEq, Eq, Debug)]
+pub enum Back {
+    Nothing,
+    ItsN,
+    OneBar,
+    BarsBefore,
+}
+
+// Whether the node is a series, a number of each row as it stands there, or takes one as its child.
+#[derive(Clone, Copy, PartialEq, Eq, Debug)]
+pub enum SeriesRole {
+    Neither,
+    Series,
+    OverSeries,
+}
+
+impl SeriesRole {
+    // Whether the node is a series.
+    pub(crate) fn is_series(self) -> bool
+        ensures { result ≡ is_series self }
+    {
+        matches!(self, SeriesRole::Series)
+    }
+
+    // Whether the node takes a series as its child.
+    pub(crate) fn takes_series(self) -> bool
+        ensures { result ≡ takes_series self }
+    {
+        matches!(self, SeriesRole::OverSeries)
+    }
+}
+
 // What a kind takes: a row of the table of kinds.
 #[derive(Clone, Copy)]
 pub struct Kind {
     pub operand: OperandClass,
     pub condition: ConditionClass,
     pub sort: u8,
-    pub children: u8,
+    pub children: Children,
     pub below: u8,
     pub selectors: u8,
-    pub n: u8,
-    pub constant: u8,
-    pub back: u8,
-    pub series: u8,
+    pub n: NumberUse,
+    pub constant: bool,
+    pub back: Back,
+    pub series: SeriesRole,
 }
 
 // Sorts.
@@ -102,240 +151,212 @@ pub const OPERAND: u8 = 1;
 
 pub const CONDITION: u8 = 2;
 
-// How many children: as many as the node's own field says.
-pub const AS_WRITTEN: u8 = 255;
-
-// What n is: unused and so zero, a slot below K, any number, or how many bars: 1 to 4,095.
-const UNUSED: u8 = 0;
-
-pub const SLOT: u8 = 1;
-
-const NUMBER: u8 = 2;
-
-pub const BAR_COUNT: u8 = 3;
-
-// What the node adds to the reach: nothing, its n, one bar, or one bar less than its n.
-const NOTHING: u8 = 0;
-
-pub const ITS_N: u8 = 1;
-
-pub const ONE_BAR: u8 = 2;
-
-pub const BARS_BEFORE: u8 = 3;
-
-// Whether the node is a series, a number of each row as it stands there, or takes one as its child.
-const NEITHER: u8 = 0;
-
-pub const A_SERIES: u8 = 1;
-
-pub const OVER_A_SERIES: u8 = 2;
-
 const UNKNOWN_ROW: Kind = Kind {
     operand: OperandClass::NoOperand,
     condition: ConditionClass::NoCondition,
     sort: 0,
-    children: 0,
+    children: Children::Exactly(0),
     below: 0,
     selectors: 0,
-    n: UNUSED,
-    constant: 0,
-    back: NOTHING,
-    series: NEITHER,
+    n: NumberUse::Unused,
+    constant: false,
+    back: Back::Nothing,
+    series: SeriesRole::Neither,
 };
 
 const CONST_ROW: Kind = Kind {
     operand: OperandClass::Const,
     condition: ConditionClass::NoCondition,
     sort: OPERAND,
-    children: 0,
+    children: Children::Exactly(0),
     below: 0,
     selectors: 1,
-    n: UNUSED,
-    constant: 1,
-    back: NOTHING,
-    series: NEITHER,
+    n: NumberUse::Unused,
+    constant: true,
+    back: Back::Nothing,
+    series: SeriesRole::Neither,
 };
 
 const REF_ROW: Kind = Kind {
     operand: OperandClass::Ref,
     condition: ConditionClass::NoCondition,
     sort: OPERAND,
-    children: 0,
+    children: Children::Exactly(0),
     below: 0,
     selectors: 1,
-    n: SLOT,
-    constant: 0,
-    back: NOTHING,
-    series: A_SERIES,
+    n: NumberUse::Slot,
+    constant: false,
+    back: Back::Nothing,
+    series: SeriesRole::Series,
 };
 
 const PRICE_ROW: Kind = Kind {
     operand: OperandClass::Price,
     condition: ConditionClass::NoCondition,
     sort: OPERAND,
-    children: 0,
+    children: Children::Exactly(0),
     below: 0,
     selectors: 7,
-    n: UNUSED,
-    constant: 0,
-    back: NOTHING,
-    series: A_SERIES,
+    n: NumberUse::Unused,
+    constant: false,
+    back: Back::Nothing,
+    series: SeriesRole::Series,
 };
 
 const PREV_ROW: Kind = Kind {
     operand: OperandClass::Prev,
     condition: ConditionClass::NoCondition,
     sort: OPERAND,
-    children: 1,
+    children: Children::Exactly(1),
     below: OPERAND,
     selectors: 1,
-    n: NUMBER,
-    constant: 0,
-    back: ITS_N,
-    series: NEITHER,
+    n: NumberUse::AnyNumber,
+    constant: false,
+    back: Back::ItsN,
+    series: SeriesRole::Neither,
 };
 
 const ARITH_ROW: Kind = Kind {
     operand: OperandClass::Arith,
     condition: ConditionClass::NoCondition,
     sort: OPERAND,
-    children: 2,
+    children: Children::Exactly(2),
     below: OPERAND,
     selectors: 1,
-    n: UNUSED,
-    constant: 0,
-    back: NOTHING,
-    series: NEITHER,
+    n: NumberUse::Unused,
+    constant: false,
+    back: Back::Nothing,
+    series: SeriesRole::Neither,
 };
 
 const EXTREME_ROW: Kind = Kind {
     operand: OperandClass::Extreme,
     condition: ConditionClass::NoCondition,
     sort: OPERAND,
-    children: 1,
+    children: Children::Exactly(1),
     below: OPERAND,
     selectors: 1,
-    n: BAR_COUNT,
-    constant: 0,
-    back: BARS_BEFORE,
-    series: OVER_A_SERIES,
+    n: NumberUse::BarCount,
+    constant: false,
+    back: Back::BarsBefore,
+    series: SeriesRole::OverSeries,
 };
 
 const COMPARE_ROW: Kind = Kind {
     operand: OperandClass::NoOperand,
     condition: ConditionClass::Compare,
     sort: CONDITION,
-    children: 2,
+    children: Children::Exactly(2),
     below: OPERAND,
     selectors: 1,
-    n: UNUSED,
-    constant: 0,
-    back: NOTHING,
-    series: NEITHER,
+    n: NumberUse::Unused,
+    constant: false,
+    back: Back::Nothing,
+    series: SeriesRole::Neither,
 };
 
 const CROSS_ROW: Kind = Kind {
     operand: OperandClass::NoOperand,
     condition: ConditionClass::Cross,
     sort: CONDITION,
-    children: 2,
+    children: Children::Exactly(2),
     below: OPERAND,
     selectors: 1,
-    n: UNUSED,
-    constant: 0,
-    back: ONE_BAR,
-    series: NEITHER,
+    n: NumberUse::Unused,
+    constant: false,
+    back: Back::OneBar,
+    series: SeriesRole::Neither,
 };
 
 const BETWEEN_ROW: Kind = Kind {
     operand: OperandClass::NoOperand,
     condition: ConditionClass::Between,
     sort: CONDITION,
-    children: 3,
+    children: Children::Exactly(3),
     below: OPERAND,
     selectors: 1,
-    n: UNUSED,
-    constant: 0,
-    back: NOTHING,
-    series: NEITHER,
+    n: NumberUse::Unused,
+    constant: false,
+    back: Back::Nothing,
+    series: SeriesRole::Neither,
 };
 
 const TREND_ROW: Kind = Kind {
     operand: OperandClass::NoOperand,
     condition: ConditionClass::Trend,
     sort: CONDITION,
-    children: 1,
+    children: Children::Exactly(1),
     below: OPERAND,
     selectors: 1,
-    n: NUMBER,
-    constant: 0,
-    back: ITS_N,
-    series: NEITHER,
+    n: NumberUse::AnyNumber,
+    constant: false,
+    back: Back::ItsN,
+    series: SeriesRole::Neither,
 };
 
 const ALL_ROW: Kind = Kind {
     operand: OperandClass::NoOperand,
     condition: ConditionClass::All,
     sort: CONDITION,
-    children: AS_WRITTEN,
+    children: Children::AsWritten,
     below: CONDITION,
     selectors: 1,
-    n: UNUSED,
-    constant: 0,
-    back: NOTHING,
-    series: NEITHER,
+    n: NumberUse::Unused,
+    constant: false,
+    back: Back::Nothing,
+    series: SeriesRole::Neither,
 };
 
 const ANY_ROW: Kind = Kind {
     operand: OperandClass::NoOperand,
     condition: ConditionClass::Any,
     sort: CONDITION,
-    children: AS_WRITTEN,
+    children: Children::AsWritten,
     below: CONDITION,
     selectors: 1,
-    n: UNUSED,
-    constant: 0,
-    back: NOTHING,
-    series: NEITHER,
+    n: NumberUse::Unused,
+    constant: false,
+    back: Back::Nothing,
+    series: SeriesRole::Neither,
 };
 
 const NOT_ROW: Kind = Kind {
     operand: OperandClass::NoOperand,
     condition: ConditionClass::Not,
     sort: CONDITION,
-    children: 1,
+    children: Children::Exactly(1),
     below: CONDITION,
     selectors: 1,
-    n: UNUSED,
-    constant: 0,
-    back: NOTHING,
-    series: NEITHER,
+    n: NumberUse::Unused,
+    constant: false,
+    back: Back::Nothing,
+    series: SeriesRole::Neither,
 };
 
 const IN_POSITION_ROW: Kind = Kind {
     operand: OperandClass::NoOperand,
     condition: ConditionClass::InPosition,
     sort: CONDITION,
-    children: 0,
+    children: Children::Exactly(0),
     below: 0,
     selectors: 2,
-    n: UNUSED,
-    constant: 0,
-    back: NOTHING,
-    series: NEITHER,
+    n: NumberUse::Unused,
+    constant: false,
+    back: Back::Nothing,
+    series: SeriesRole::Neither,
 };
 
 const BARS_SINCE_ROW: Kind = Kind {
     operand: OperandClass::NoOperand,
     condition: ConditionClass::BarsSince,
     sort: CONDITION,
-    children: 0,
+    children: Children::Exactly(0),
     below: 0,
     selectors: 5,
-    n: NUMBER,
-    constant: 0,
-    back: NOTHING,
-    series: NEITHER,
+    n: NumberUse::AnyNumber,
+    constant: false,
+    back: Back::Nothing,
+    series: SeriesRole::Neither,
 };
 
 // The rows by name, so that the table of kinds is one byte a kind: an array of rows would be copied whole at each look-up.
@@ -396,6 +417,7 @@ const KINDS: [Row; 32] = [
 ];
 
 // The row of a name.
+#[tactic(auto, unfolding(crate::specs::Kinds::row_named))]
 fn row_named(name: Row) -> Kind
     ensures { result ≡ row_named name }
 {
@@ -431,7 +453,7 @@ pub fn kind_of(k: u8) -> Kind
     }
 }
 
-// The version of the table that a kind came with, none for an unknown one. It is no part of a row, so that kinds of one row may
+// The version of the table that a kind came with, none for an unknown one: a number, as in a header. It is no part of a row, so that kinds of one row may
 // come with different versions.
 const NONE: u8 = 0;
 

@@ -19,7 +19,7 @@ ghost use Rattle.words.specs.Limits.{most_nodes};
 ghost use Rattle.table.specs.Header.{header_refusal};
 ghost use Rattle.table.specs.Checked.{checked, checked_up_to, from7, from8, from9};
 ghost use Rattle.table.specs.Ends.{ends_all, ends_for, ends_beside};
-ghost use Rattle.table.specs.Passes.{Roots, LinkedAll};
+ghost use Rattle.table.specs.Passes.{AreRoots, LinkedAll};
 
 use answer::{Answer, Checked};
 use nesting::too_deep;
@@ -27,6 +27,7 @@ use nodes::wrong_node;
 use order::{misfits_of, order_all};
 use places::Place;
 use reach::far_or_accepted;
+use trees::Roots;
 use words::refusal::Refusal;
 
 fn refused(refusal: Refusal) -> Checked
@@ -38,12 +39,12 @@ fn refused(refusal: Refusal) -> Checked
     }
 }
 
-fn check_reach(t: &[u8], ends: [usize; 256], a: usize, b: usize, c: usize, e: usize) -> Checked
-    requires roots { Roots t.now a b c e }
-    requires linked_all { LinkedAll t.now ends a b c e }
+fn check_reach(t: &[u8], ends: [usize; 256], roots: Roots) -> Checked
+    requires roots { AreRoots t.now roots }
+    requires linked_all { LinkedAll t.now ends roots }
     ensures { (result.answer ≡ from9 t.now) × (result.ends ≡ ends_for (from9 t.now) ends) }
 {
-    let answer = far_or_accepted(t, &ends, a, b, c, e);
+    let answer = far_or_accepted(t, &ends, roots);
     match answer {
         Answer::Refused(refusal) => refused(refusal),
         Answer::Accepted { nodes, rows } => Checked {
@@ -53,33 +54,33 @@ fn check_reach(t: &[u8], ends: [usize; 256], a: usize, b: usize, c: usize, e: us
     }
 }
 
-fn check_nesting(t: &[u8], ends: [usize; 256], a: usize, b: usize, c: usize, e: usize) -> Checked
-    requires roots { Roots t.now a b c e }
-    requires linked_all { LinkedAll t.now ends a b c e }
+fn check_nesting(t: &[u8], ends: [usize; 256], roots: Roots) -> Checked
+    requires roots { AreRoots t.now roots }
+    requires linked_all { LinkedAll t.now ends roots }
     ensures { (result.answer ≡ from8 t.now) × (result.ends ≡ ends_for (from8 t.now) ends) }
 {
-    let deep = too_deep(t, &ends, a, b, c, e);
+    let deep = too_deep(t, &ends, roots);
     match deep {
         Place::At(p) => refused(Refusal {
             number: 8,
             place: p as u64,
         }),
-        Place::Nowhere => check_reach(t, ends, a, b, c, e),
+        Place::Nowhere => check_reach(t, ends, roots),
     }
 }
 
-fn check_order(t: &[u8], a: usize, b: usize, c: usize, e: usize) -> Checked
-    requires { Roots t.now a b c e }
+fn check_order(t: &[u8], roots: Roots) -> Checked
+    requires { AreRoots t.now roots }
     ensures { (result.answer ≡ from7 t.now) × (result.ends ≡ ends_for (from7 t.now) (ends_all t.now)) }
 {
-    let ends = order_all(t, a, b, c, e);
-    let bad = misfits_of(t, &ends, a, b, c, e);
+    let ends = order_all(t, roots);
+    let bad = misfits_of(t, &ends, roots);
     match bad {
         Place::At(p) => refused(Refusal {
             number: 7,
             place: p as u64,
         }),
-        Place::Nowhere => check_nesting(t, ends, a, b, c, e),
+        Place::Nowhere => check_nesting(t, ends, roots),
     }
 }
 
@@ -96,10 +97,19 @@ fn check_nodes(t: &[u8], newest: usize) -> Checked
             place: p as u64,
         }),
         Place::Nowhere => {
-            let a = header::root(t, 1);
-            let b = header::root(t, 2);
-            let c = header::root(t, 3);
-            check_order(t, a, b, c, total)
+            let exit = header::root(t, 1);
+            let short_entry = header::root(t, 2);
+            let short_exit = header::root(t, 3);
+            let end = total;
+            check_order(
+                t,
+                Roots {
+                    exit,
+                    short_entry,
+                    short_exit,
+                    end,
+                },
+            )
         }
     }
 }

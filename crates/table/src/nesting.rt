@@ -4,10 +4,11 @@ ghost use Rattle.words.specs.Limits.{most_nesting, most_nodes};
 ghost use Rattle.table.specs.Forest.{trees};
 ghost use Rattle.table.specs.Nesting.{deeper, too_deep};
 ghost use Rattle.table.specs.Ends.{Linked};
-ghost use Rattle.table.specs.Passes.{Roots, LinkedAll};
+ghost use Rattle.table.specs.Passes.{AreRoots, LinkedAll};
 
 use crate::places::{Place, first_place};
-use crate::weighing::{LEVELS, weigh_tree};
+use crate::trees::Roots;
+use crate::weighing::{Weight, weigh_tree};
 use words::limits::MOST_NESTING;
 
 // The first node of one tree below more than 32 levels: down where a subtree is too tall, past it where it is not.
@@ -16,9 +17,10 @@ fn deep_of(t: &[u8], ends: &[usize; 256], b: usize, e: usize) -> Place
     requires linked { Linked t.now ends.now b e }
     ensures { result ≡ deeper most_nesting (trees t.now (e - b) b) }
 {
-    let tall = weigh_tree(t, ends, LEVELS, b, e);
+    let tall = weigh_tree(t, ends, Weight::Levels, b, e);
     let mut left: u64 = MOST_NESTING as u64;
     let mut j = b;
+    // what comes after node j is the next node or its subtree's end, so no range gives it
     while j < e {
         if left == 0 {
             return Place::At(j);
@@ -33,21 +35,15 @@ fn deep_of(t: &[u8], ends: &[usize; 256], b: usize, e: usize) -> Place
     Place::Nowhere
 }
 
-pub(crate) fn too_deep(
-    t: &[u8],
-    ends: &[usize; 256],
-    a: usize,
-    b: usize,
-    c: usize,
-    e: usize,
-) -> Place
-    requires roots { Roots t.now a b c e }
-    requires linked_all { LinkedAll t.now ends.now a b c e }
+// The first node of the four trees below more than 32 levels.
+pub(crate) fn too_deep(t: &[u8], ends: &[usize; 256], roots: Roots) -> Place
+    requires roots { AreRoots t.now roots }
+    requires linked_all { LinkedAll t.now ends.now roots }
     ensures { result ≡ too_deep t.now }
 {
-    let p = deep_of(t, ends, 0, a);
-    let q = deep_of(t, ends, a, b);
-    let r = deep_of(t, ends, b, c);
-    let s = deep_of(t, ends, c, e);
+    let p = deep_of(t, ends, 0, roots.exit);
+    let q = deep_of(t, ends, roots.exit, roots.short_entry);
+    let r = deep_of(t, ends, roots.short_entry, roots.short_exit);
+    let s = deep_of(t, ends, roots.short_exit, roots.end);
     first_place(p, q, r, s)
 }

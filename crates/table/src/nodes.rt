@@ -6,9 +6,7 @@ ghost use Rattle.table.specs.Nodes.{sort_at, child_count, child_count_at, child_
 
 use crate::bytes::{byte, read16, read32, read64};
 use crate::header::{Form, form_of};
-use crate::kinds::{
-    A_SERIES, AS_WRITTEN, BAR_COUNT, Kind, OVER_A_SERIES, SECOND, SLOT, kind_of, since_of,
-};
+use crate::kinds::{Children, Kind, NumberUse, SECOND, kind_of, since_of};
 use crate::places::Place;
 use words::limits::MOST_REACH;
 
@@ -54,82 +52,61 @@ pub fn node_at(t: &[u8], i: usize) -> Node
     }
 }
 
+#[tactic(auto, unfolding(crate::specs::Nodes::kind_right))]
 fn kind_right(version: usize, kind: u8) -> bool
     ensures { result ≡ kind_right version kind }
 {
-    if since_of(kind) == SECOND {
-        SECOND as usize <= version
-    } else {
-        true
-    }
+    since_of(kind) != SECOND || SECOND as usize <= version
 }
 
-fn children_right(children: usize, takes: u8) -> bool
+#[tactic(auto, unfolding(crate::specs::Nodes::children_right))]
+fn children_right(children: usize, takes: Children) -> bool
     ensures { result ≡ children_right children takes }
 {
-    if takes == AS_WRITTEN {
-        true
-    } else {
-        children == 0
+    match takes {
+        Children::AsWritten => true,
+        Children::Exactly(_) => children == 0,
     }
 }
 
-fn n_right(k: u8, n: u64, used: u8) -> bool
+#[tactic(auto, unfolding(crate::specs::Nodes::n_right))]
+fn n_right(k: u8, n: u64, used: NumberUse) -> bool
     ensures { result ≡ n_right k n used }
 {
-    if used == 0 {
-        return n == 0;
+    match used {
+        NumberUse::Unused => n == 0,
+        NumberUse::Slot => n < k as u64,
+        NumberUse::AnyNumber => true,
+        NumberUse::BarCount => 1 <= n && n <= MOST_REACH,
     }
-    if used == SLOT {
-        return n < k as u64;
-    }
-    if used == BAR_COUNT {
-        if n < 1 {
-            return false;
-        }
-        return n <= MOST_REACH;
-    }
-    true
 }
 
-fn constant_right(bits: u64, used: u8) -> bool
+#[tactic(auto, unfolding(crate::specs::Nodes::constant_right))]
+fn constant_right(bits: u64, used: bool) -> bool
     ensures { result ≡ constant_right bits used }
 {
-    if used == 1 {
+    if used {
         floats::word_is_finite(bits)
     } else {
         bits == 0
     }
 }
 
+#[tactic(auto, unfolding(crate::specs::Nodes::fields_right))]
 fn fields_right(k: u8, n: Node, w: Kind) -> bool
     ensures { result ≡ fields_right k n w }
 {
-    if w.selectors <= n.selector {
-        return false;
-    }
-    if children_right(n.children, w.children) {
-        if n_right(k, n.n, w.n) {
-            constant_right(n.constant, w.constant)
-        } else {
-            false
-        }
-    } else {
-        false
-    }
+    n.selector < w.selectors
+        && children_right(n.children, w.children)
+        && n_right(k, n.n, w.n)
+        && constant_right(n.constant, w.constant)
 }
 
+#[tactic(auto, unfolding(crate::specs::Nodes::own_right))]
 fn own_right(form: Form, n: Node, w: Kind) -> bool
     ensures { result ≡ own_right form n w }
 {
-    if w.sort == 0 {
-        return false;
-    }
-    if kind_right(form.version, n.kind) {
-        fields_right(form.slots, n, w)
-    } else {
-        false
-    }
+    w.sort != 0 && kind_right(form.version, n.kind) && fields_right(form.slots, n, w)
 }
 
 // Whether node i's own bytes are right, in a table of the form given.
@@ -146,11 +123,8 @@ pub fn wrong_node(t: &[u8], total: usize) -> Place
     ensures { result ≡ wrong_node t.now total 0 }
 {
     let form = form_of(t);
-    let mut i = 0;
-    while i < total {
-        if node_right(t, form, i) {
-            i += 1;
-        } else {
+    for i in 0..total {
+        if !node_right(t, form, i) {
             return Place::At(i);
         }
     }
@@ -158,6 +132,7 @@ pub fn wrong_node(t: &[u8], total: usize) -> Place
 }
 
 // Node i's sort.
+#[tactic(auto, unfolding(crate::specs::Nodes::sort_at))]
 pub fn sort_at(t: &[u8], i: usize) -> u8
     ensures { result ≡ sort_at t.now i }
 {
@@ -167,17 +142,18 @@ pub fn sort_at(t: &[u8], i: usize) -> u8
 }
 
 // How many children a node takes, by its kind's row.
+#[tactic(auto, unfolding(crate::specs::Nodes::child_count))]
 pub fn child_count(n: Node, w: Kind) -> usize
     ensures { result ≡ child_count n w }
 {
-    if w.children == AS_WRITTEN {
-        n.children
-    } else {
-        w.children as usize
+    match w.children {
+        Children::AsWritten => n.children,
+        Children::Exactly(count) => count as usize,
     }
 }
 
 // How many children node i takes.
+#[tactic(auto, unfolding(crate::specs::Nodes::child_count_at))]
 pub fn child_count_at(t: &[u8], i: usize) -> usize
     ensures { result ≡ child_count_at t.now i }
 {
@@ -187,13 +163,14 @@ pub fn child_count_at(t: &[u8], i: usize) -> usize
 }
 
 // Whether node `next` may be a child of a node with this row, its sort apart: Highest and Lowest take a Price or a Ref alone.
+#[tactic(auto, unfolding(crate::specs::Nodes::child_fits))]
 pub fn child_fits(t: &[u8], w: Kind, next: usize) -> bool
     ensures { result ≡ child_fits w (kind_of (node_at t.now next).kind) }
 {
-    if w.series == OVER_A_SERIES {
+    if w.series.takes_series() {
         let n = node_at(t, next);
         let child = kind_of(n.kind);
-        child.series == A_SERIES
+        child.series.is_series()
     } else {
         true
     }

@@ -3,13 +3,15 @@ ghost use Rattle.std.specs.Prelude.{◌≡◌, ◌+◌, ◌-◌, ◌≤◌, ◌<
 ghost use Rattle.words.specs.Limits.{most_nodes};
 ghost use Rattle.table.specs.Nodes.{child_count_at, child_sort_at, child_fits_at};
 ghost use Rattle.table.specs.Order.{misfit, misfits};
-ghost use Rattle.table.specs.Passes.{Ended, EndedFrom, Ordered, Roots, EndedAll};
+ghost use Rattle.table.specs.Passes.{Ended, EndedFrom, Ordered, AreRoots, EndedAll};
 
 use crate::kinds::{CONDITION, kind_of};
 use crate::nodes::{child_count, child_fits, node_at, sort_at};
 use crate::places::{Place, first_place};
+use crate::trees::Roots;
 
-// From here on a word is no end, but the place where a subtree stops fitting and as much more.
+// From here on a word is no end, but the place where a subtree stops fitting and as much more. The two share a word, since the array of
+// ends has one word a node and is handed on as it is once every word is an end.
 const MISFIT_FROM: usize = 512;
 
 // The end of the subtree that begins at node i, whose first child is one that it takes, or MISFIT_FROM more than the place where it stops
@@ -20,9 +22,8 @@ fn end_below(t: &[u8], ends: &[usize; 256], i: usize, e: usize, below: u8, many:
     requires i_value { (child_fits_at t.now i ≡ true) × (many ≡ child_count_at t.now i) × (below ≡ child_sort_at t.now i) }
     ensures { Ended t.now e i result }
 {
-    let mut left = many;
     let mut j = i + 1;
-    while 0 < left {
+    for _ in 0..many {
         if e <= j {
             return MISFIT_FROM + j;
         }
@@ -34,7 +35,6 @@ fn end_below(t: &[u8], ends: &[usize; 256], i: usize, e: usize, below: u8, many:
             return v;
         }
         j = v;
-        left -= 1;
     }
     j
 }
@@ -60,9 +60,7 @@ fn order_tree(t: &[u8], given: [usize; 256], b: usize, e: usize) -> [usize; 256]
     ensures { Ordered t.now b e given result }
 {
     let mut ends = given;
-    let mut i = e;
-    while b < i {
-        i -= 1;
+    for i in (b..e).rev() {
         let v = end_of(t, &ends, i, e);
         ends[i] = v;
     }
@@ -90,33 +88,27 @@ fn misfit_of(t: &[u8], ends: &[usize; 256], b: usize, e: usize) -> Place
     Place::Nowhere
 }
 
-// The ends of the four trees: a, b and c are the roots of the second to the fourth, e is the end.
-pub(crate) fn order_all(t: &[u8], a: usize, b: usize, c: usize, e: usize) -> [usize; 256]
-    requires { Roots t.now a b c e }
-    ensures { EndedAll t.now result a b c e }
+// The ends of the four trees.
+pub(crate) fn order_all(t: &[u8], roots: Roots) -> [usize; 256]
+    requires { AreRoots t.now roots }
+    ensures { EndedAll t.now result roots }
 {
     let none = [0usize; 256];
-    let one = order_tree(t, none, 0, a);
-    let two = order_tree(t, one, a, b);
-    let three = order_tree(t, two, b, c);
-    order_tree(t, three, c, e)
+    let one = order_tree(t, none, 0, roots.exit);
+    let two = order_tree(t, one, roots.exit, roots.short_entry);
+    let three = order_tree(t, two, roots.short_entry, roots.short_exit);
+    order_tree(t, three, roots.short_exit, roots.end)
 }
 
-pub(crate) fn misfits_of(
-    t: &[u8],
-    ends: &[usize; 256],
-    a: usize,
-    b: usize,
-    c: usize,
-    e: usize,
-) -> Place
-    requires roots { Roots t.now a b c e }
-    requires ended_all { EndedAll t.now ends.now a b c e }
+// The first place where one of the four trees stops fitting.
+pub(crate) fn misfits_of(t: &[u8], ends: &[usize; 256], roots: Roots) -> Place
+    requires roots { AreRoots t.now roots }
+    requires ended_all { EndedAll t.now ends.now roots }
     ensures { result ≡ misfits t.now }
 {
-    let p = misfit_of(t, ends, 0, a);
-    let q = misfit_of(t, ends, a, b);
-    let r = misfit_of(t, ends, b, c);
-    let s = misfit_of(t, ends, c, e);
+    let p = misfit_of(t, ends, 0, roots.exit);
+    let q = misfit_of(t, ends, roots.exit, roots.short_entry);
+    let r = misfit_of(t, ends, roots.short_entry, roots.short_exit);
+    let s = misfit_of(t, ends, roots.short_exit, roots.end);
     first_place(p, q, r, s)
 }

@@ -19,7 +19,8 @@ fn or_place(p: Place, q: Place) -> Place
     }
 }
 
-// The first place of four, one for each tree.
+// The first place of four, one for each tree. The rules that ask it find their four in a line each; a function that takes the rule as a
+// closure would have to say in its contract what each of the four calls is handed.
 pub(crate) fn first_place(p: Place, q: Place, r: Place, s: Place) -> Place
     ensures { result ≡ first_place p q r s }
 {

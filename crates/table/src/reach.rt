@@ -6,11 +6,12 @@ ghost use Rattle.table.specs.Forest.{trees};
 ghost use Rattle.table.specs.Reach.{forest_reach, far_at};
 ghost use Rattle.table.specs.Ends.{Linked};
 ghost use Rattle.table.specs.Checked.{from9};
-ghost use Rattle.table.specs.Passes.{Roots, LinkedAll};
+ghost use Rattle.table.specs.Passes.{AreRoots, LinkedAll};
 
 use crate::answer::Answer;
 use crate::places::{Place, first_place};
-use crate::weighing::{BARS, capped, greater, weigh_tree};
+use crate::trees::Roots;
+use crate::weighing::{Weight, capped, weigh_tree};
 use words::limits::MOST_REACH;
 use words::refusal::Refusal;
 
@@ -24,7 +25,7 @@ fn reach_of(t: &[u8], ends: &[usize; 256], b: usize, e: usize) -> u64
     if e <= b {
         return 0;
     }
-    let far = weigh_tree(t, ends, BARS, b, e);
+    let far = weigh_tree(t, ends, Weight::Bars, b, e);
     far[b]
 }
 
@@ -38,50 +39,41 @@ fn far_at(reach: u64, b: usize) -> Place
     }
 }
 
-fn too_far(w: u64, x: u64, y: u64, z: u64, a: usize, b: usize, c: usize) -> Place
-    ensures { result ≡ first_place (far_at w 0) (far_at x a) (far_at y b) (far_at z c) }
+fn too_far(w: u64, x: u64, y: u64, z: u64, roots: Roots) -> Place
+    ensures { result ≡ first_place (far_at w 0) (far_at x roots.exit) (far_at y roots.short_entry) (far_at z roots.short_exit) }
 {
     let p = far_at(w, 0);
-    let q = far_at(x, a);
-    let r = far_at(y, b);
-    let s = far_at(z, c);
+    let q = far_at(x, roots.exit);
+    let r = far_at(y, roots.short_entry);
+    let s = far_at(z, roots.short_exit);
     first_place(p, q, r, s)
 }
 
 fn rows_needed(w: u64, x: u64, y: u64, z: u64) -> u64
     ensures { result ≡ min (max (max w x) (max y z)) most_rows + 1 }
 {
-    let p = greater(w, x);
-    let q = greater(y, z);
-    let most = greater(p, q);
-    let m = capped(most);
-    m + 1
+    let most = w.max(x).max(y.max(z));
+    capped(most) + 1
 }
 
 // Rule 9, and the answer where no rule is broken.
-pub(crate) fn far_or_accepted(
-    t: &[u8],
-    ends: &[usize; 256],
-    a: usize,
-    b: usize,
-    c: usize,
-    e: usize,
-) -> Answer
-    requires roots { Roots t.now a b c e }
-    requires linked_all { LinkedAll t.now ends.now a b c e }
+pub(crate) fn far_or_accepted(t: &[u8], ends: &[usize; 256], roots: Roots) -> Answer
+    requires roots { AreRoots t.now roots }
+    requires linked_all { LinkedAll t.now ends.now roots }
     ensures { result ≡ from9 t.now }
 {
-    let w = reach_of(t, ends, 0, a);
-    let x = reach_of(t, ends, a, b);
-    let y = reach_of(t, ends, b, c);
-    let z = reach_of(t, ends, c, e);
-    let far = too_far(w, x, y, z, a, b, c);
+    let w = reach_of(t, ends, 0, roots.exit);
+    let x = reach_of(t, ends, roots.exit, roots.short_entry);
+    let y = reach_of(t, ends, roots.short_entry, roots.short_exit);
+    let z = reach_of(t, ends, roots.short_exit, roots.end);
+    let far = too_far(w, x, y, z, roots);
+    let nodes = roots.end;
     let rows = rows_needed(w, x, y, z);
     match far {
         Place::At(p) => Answer::Refused(Refusal {
             number: 9,
             place: p as u64,
         }),
-        Place::Nowhere => Answer::Accepted { nodes: e, rows },
+        Place::Nowhere => Answer::Accepted { nodes, rows },
     }
 }

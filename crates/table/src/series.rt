@@ -12,21 +12,23 @@ pub enum Series {
 }
 
 // The series that a node is, by the class of its kind. A node that is none counts as the open.
+#[tactic(auto, unfolding(crate::specs::Series::series_by))]
 fn series_by(class: OperandClass, node: Node) -> Series
     ensures { result ≡ series_by class node }
 {
     match class {
         OperandClass::Ref => Series::Slot(node.n),
         OperandClass::Price => Series::Price(node.selector),
-        OperandClass::Const => Series::Price(0),
-        OperandClass::Prev => Series::Price(0),
-        OperandClass::Arith => Series::Price(0),
-        OperandClass::Extreme => Series::Price(0),
-        OperandClass::NoOperand => Series::Price(0),
+        OperandClass::Const
+        | OperandClass::Prev
+        | OperandClass::Arith
+        | OperandClass::Extreme
+        | OperandClass::NoOperand => Series::Price(0),
     }
 }
 
 // The series at node i.
+#[tactic(auto, unfolding(crate::specs::Series::series_in))]
 pub fn series_in(t: &[u8], i: usize) -> Series
     ensures { result ≡ series_in t.now i }
 {

@@ -12,7 +12,7 @@ ghost use Rattle.table.specs.Silent.{WholeTrees, silent_answer, list_after_answe
 use crate::answer::Answer;
 use crate::kinds::{CONDITION, OPERAND, kind_of};
 use crate::nodes::node_at;
-use crate::weighing::{BARS, weigh_tree};
+use crate::weighing::{Weight, weigh_tree};
 use crate::{check, header};
 use words::refusal::Refusal;
 
@@ -27,20 +27,16 @@ pub enum SilentAnswer {
 pub const ROOM_SILENT: u64 = 18;
 
 // Whether the node is a test and reaches back `d` bars or more, where its subtree weighs `far`.
+#[tactic(auto, unfolding(crate::specs::Kinds::is_test_kind))]
 fn is_silent(t: &[u8], i: usize, far: u64, d: u64) -> bool
     ensures { result ≡ (is_test_kind (node_at t.now i).kind && leb d far) }
 {
     let n = node_at(t, i);
     let row = kind_of(n.kind);
-    if row.sort == CONDITION {
-        if row.below == OPERAND {
-            return d <= far;
-        }
-    }
-    false
+    row.sort == CONDITION && row.below == OPERAND && d <= far
 }
 
-// A number into a list, where the list has that place.
+// A number into a list, where the list has that place. `get_mut` does not say that a list without the place stays as it is.
 fn put(list: &mut [u64], at: usize, x: u64)
     ensures { list.new ≡ set list.old at x }
 {
@@ -59,16 +55,12 @@ fn list_tree(t: &[u8], ends: &[usize; 256], d: u64, x: u8, list: &mut [u64], at:
 {
     let b = header::root(t, x);
     let e = header::root(t, x + 1);
-    let far = weigh_tree(t, ends, BARS, b, e);
+    let far = weigh_tree(t, ends, Weight::Bars, b, e);
     let mut next = at;
-    let mut i = b;
-    while i < e {
+    for i in b..e {
         if is_silent(t, i, far[i], d) {
             put(list, next, i as u64);
             next += 1;
-            i += 1;
-        } else {
-            i += 1;
         }
     }
     next

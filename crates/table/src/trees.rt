@@ -11,6 +11,15 @@ pub enum Tree {
     ShortExit,
 }
 
+// Where the trees begin, the first one at node 0, and where the last one ends.
+#[derive(Clone, Copy)]
+pub(crate) struct Roots {
+    pub exit: usize,
+    pub short_entry: usize,
+    pub short_exit: usize,
+    pub end: usize,
+}
+
 // The trees in the header's order.
 pub fn tree_number(tree: Tree) -> u8
     ensures { result ≡ tree_number tree }

@@ -7,58 +7,48 @@ ghost use Rattle.table.specs.Reach.{back};
 ghost use Rattle.table.specs.Ends.{Linked};
 ghost use Rattle.table.specs.Passes.{weight, Most, WordsFrom};
 
-use crate::kinds::{BARS_BEFORE, ITS_N, Kind, ONE_BAR, kind_of};
+use crate::kinds::{Back, Kind, kind_of};
 use crate::nodes::{Node, child_count_at, node_at};
 use words::limits::MOST_ROWS;
 
-pub const LEVELS: u8 = 0;
-
-pub const BARS: u8 = 1;
-
-pub fn greater(a: u64, b: u64) -> u64
-    ensures { result ≡ max a b }
-{
-    if a < b { b } else { a }
+// What is weighed: how many levels a subtree has, or how many bars it reads back.
+#[derive(Clone, Copy, PartialEq, Eq, Debug)]
+pub enum Weight {
+    Levels,
+    Bars,
 }
 
 pub fn capped(a: u64) -> u64
     ensures { result ≡ min a most_rows }
 {
-    let most = MOST_ROWS as u64;
-    if a < most { a } else { most }
-}
-
-fn one_less(a: u64) -> u64
-    ensures { result ≡ a - 1 }
-{
-    if a < 1 { 0 } else { a - 1 }
+    a.min(MOST_ROWS as u64)
 }
 
 // What a node adds to the reach.
+#[tactic(auto, unfolding(crate::specs::Reach::back))]
 pub fn back_of(n: Node, w: Kind) -> u64
     ensures { result ≡ back n w }
 {
-    if w.back == ITS_N {
-        return n.n;
+    match w.back {
+        Back::Nothing => 0,
+        Back::ItsN => n.n,
+        Back::OneBar => 1,
+        Back::BarsBefore => n.n.saturating_sub(1),
     }
-    if w.back == ONE_BAR {
-        return 1;
-    }
-    if w.back == BARS_BEFORE {
-        return one_less(n.n);
-    }
-    0
 }
 
-fn weight_at(t: &[u8], what: u8, i: usize) -> u64
+#[tactic(auto, unfolding(crate::specs::Passes::weight, crate::specs::Reach::own_back))]
+fn weight_at(t: &[u8], what: Weight, i: usize) -> u64
     ensures { result ≡ min (weight what (node_at t.now i)) most_rows }
 {
-    if what == LEVELS {
-        return 1;
+    match what {
+        Weight::Levels => 1,
+        Weight::Bars => {
+            let n = node_at(t, i);
+            let w = kind_of(n.kind);
+            capped(back_of(n, w))
+        }
     }
-    let n = node_at(t, i);
-    let w = kind_of(n.kind);
-    capped(back_of(n, w))
 }
 
 // The greatest word of node i's children.
@@ -67,29 +57,32 @@ fn most_below(t: &[u8], ends: &[usize; 256], words: &[u64; 256], i: usize, e: us
     requires linked { Linked t.now ends.now (i + 1) e }
     ensures { Most t.now words.now i e result }
 {
-    let mut left = child_count_at(t, i);
+    let children = child_count_at(t, i);
     let mut most: u64 = 0;
     let mut j = i + 1;
-    while j < e {
-        if left == 0 {
+    for _ in 0..children {
+        if e <= j {
             return most;
         }
-        most = greater(most, words[j]);
+        most = most.max(words[j]);
         j = ends[j];
-        left -= 1;
     }
     most
 }
 
-pub(crate) fn weigh_tree(t: &[u8], ends: &[usize; 256], what: u8, b: usize, e: usize) -> [u64; 256]
+pub(crate) fn weigh_tree(
+    t: &[u8],
+    ends: &[usize; 256],
+    what: Weight,
+    b: usize,
+    e: usize,
+) -> [u64; 256]
     requires b_le_e { (b ≤ e) × (e ≤ most_nodes) }
     requires linked { Linked t.now ends.now b e }
     ensures { WordsFrom t.now result (weight what) b e }
 {
     let mut words = [0u64; 256];
-    let mut i = e;
-    while b < i {
-        i -= 1;
+    for i in (b..e).rev() {
         let own = weight_at(t, what, i);
         let most = most_below(t, ends, &words, i, e);
         let x = capped(own + most);

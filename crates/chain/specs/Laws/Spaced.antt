@@ -2,7 +2,7 @@
 -- nodes. Assumes nothing.
 use Rattle.std.specs.Prelude.{ℕ, zero, suc, ◌+◌, ◌-◌, ◌≤◌, ◌<◌, ◌≡◌, true, List, eqb}
 use Rattle.words.specs.Prelude.{sym, ap, subst, ◌∙◌, true≢false, arith, lt-leb}
-use Rattle.table.specs.{declared.kinds.Kind.Kind, declared.answer.Answer.TheVariants.Accepted, Kinds.kind_of, Kinds.a_series, Kinds.extremum}
+use Rattle.table.specs.{declared.kinds.Kind.Kind, declared.answer.Answer.TheVariants.Accepted, Kinds.kind_of, Kinds.is_series, Kinds.extremum}
 use Rattle.table.specs.{Laws.Kinds.OperandKind, Laws.Kinds.a_const, Laws.Kinds.a_ref, Laws.Kinds.a_price, Laws.Kinds.a_prev, Laws.Kinds.an_arith}
 use Rattle.table.specs.{Laws.Kinds.an_extreme, Laws.Kinds.operand_kind, Laws.Kinds.ConditionKind, Laws.Kinds.a_compare, Laws.Kinds.a_cross}
 use Rattle.table.specs.{Laws.Kinds.a_between, Laws.Kinds.a_trend, Laws.Kinds.an_all, Laws.Kinds.an_any, Laws.Kinds.a_not, Laws.Kinds.a_position}
@@ -122,13 +122,13 @@ module _ (t ends : List ℕ) (b e : ℕ) (whole : WholeTree t ends b e) where
   moved a v j e p = rw e at p
 
   -- "one child that must be a Price or a Ref" (request 8): so it has no child of its own
-  series_below : (i : ℕ) → b ≤ i → i < e → i + 1 < e → kind_of (node_at t i).kind ≡ extremum → eqb (kind_of (node_at t (i + 1)).kind).series a_series ≡ true
+  series_below : (i : ℕ) → b ≤ i → i < e → i + 1 < e → kind_of (node_at t i).kind ≡ extremum → is_series (kind_of (node_at t (i + 1)).kind).series ≡ true
   unfolding Sorted Fitting trees node_over first_trees child_fits child_count_at child_count
   series_below i lo there near row =
       let own = rw (left_suc e i there, left_suc e (i + 1) near, row) at (whole.sorted i lo there) in
       rw row at own.3
 
-  no_child : (k : ℕ) → OperandKind (node_at t k).kind → eqb (kind_of (node_at t k).kind).series a_series ≡ true → child_count_at t k ≡ 0
+  no_child : (k : ℕ) → OperandKind (node_at t k).kind → is_series (kind_of (node_at t k).kind).series ≡ true → child_count_at t k ≡ 0
   unfolding child_count_at child_count
   no_child k (a_const e r) is = absurd (true≢false (sym (rw r at is)))
   no_child k (a_ref e r) is = rw r

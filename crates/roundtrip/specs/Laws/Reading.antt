@@ -2,7 +2,8 @@
 -- Assumes nothing.
 use Rattle.std.specs.Prelude.{◌≡◌, refl, Bool, true, false, cond, List, [], ◌∷◌, ℕ, suc, length, replicate, eqb}
 use Rattle.words.specs.Prelude.{◌∙◌, ap, arith, length-replicate, eqb-true}
-use Rattle.table.specs.{declared.nodes.Node.Node, declared.kinds.Kind.Kind, Kinds.kinds, Kinds.kind_of, Nodes.child_count, Forest.Forest, Forest.sorts}
+use Rattle.table.specs.{declared.kinds.Children.Children, Nodes.taken, declared.nodes.Node.Node, declared.kinds.Kind.Kind, Kinds.kinds, Kinds.kind_of}
+use Rattle.table.specs.{Nodes.child_count, Forest.Forest, Forest.sorts}
 use Rattle.table.specs.{Trees.Operand, Reading.child}
 use Rattle.table.specs.{Reading.operands, Reading.conditions, Writing.many_of, Ends.from, Laws.Kinds.of_rows, Laws.Kinds.known}
 
@@ -34,20 +35,29 @@ row_three [] h = absurd (omega arith)
 row_three (a ∷ os) h = ap (λ (l : List Operand). a ∷ l) (row_two os (omega arith))
 
 -- An operand takes operands, or nothing: so say all rows of the table of kinds.
+no_children : Children → Bool
+no_children (Children.Exactly many) = eqb many 0
+no_children Children.AsWritten = false
+
+none_taken : (written : ℕ) (takes : Children) → no_children takes ≡ true → taken written takes ≡ 0
+unfolding no_children
+none_taken written (Children.Exactly many) none = eqb-true many 0 none
+none_taken written Children.AsWritten none = cc
+
 takes_operands : ℕ → Bool
-takes_operands k = cond (eqb (kind_of k).sort 1) (cond (eqb (kind_of k).below 1) true (eqb (kind_of k).children 0)) true
+takes_operands k = cond (eqb (kind_of k).sort 1) (cond (eqb (kind_of k).below 1) true (no_children (kind_of k).children)) true
 
 below_operand : (n : Node) → (kind_of n.kind).sort ≡ 1
     → replicate (child_count n (kind_of n.kind)) (kind_of n.kind).below ≡ replicate (child_count n (kind_of n.kind)) 1
 unfolding takes_operands
 below_operand n sort =
     let low = known n.kind (kind_of n.kind) refl (omega arith) in
-    go (eqb (kind_of n.kind).below 1) refl (rw sort at (of_rows takes_operands (λ i. true) (unfold from kind_of kinds in refl) n.kind low))
+    go (eqb (kind_of n.kind).below 1) refl (rw sort at (of_rows takes_operands (λ i. true) (unfold from kind_of kinds no_children in refl) n.kind low))
   where
-    go : (b : Bool) → eqb (kind_of n.kind).below 1 ≡ b → cond b true (eqb (kind_of n.kind).children 0) ≡ true
+    go : (b : Bool) → eqb (kind_of n.kind).below 1 ≡ b → cond b true (no_children (kind_of n.kind).children) ≡ true
         → replicate (child_count n (kind_of n.kind)) (kind_of n.kind).below ≡ replicate (child_count n (kind_of n.kind)) 1
     go true is t = rw (eqb-true (kind_of n.kind).below 1 is)
-    go false not_so t = unfold child_count in rw (eqb-true (kind_of n.kind).children 0 t)
+    go false not_so t = unfold child_count in rw (none_taken n.children (kind_of n.kind).children t)
 
 -- so the trees below an operand are operands, as many as it takes
 pub operands_below : (n : Node) (below : Forest) → (kind_of n.kind).sort ≡ 1

@@ -3,7 +3,7 @@
 use Rattle.std.specs.Prelude.{◌≡◌, refl, true, List, [], ◌∷◌, ℕ, replicate, eqb}
 use Rattle.words.specs.Prelude.{sym, true≢false, arith}
 use Rattle.table.specs.{declared.nodes.Node.Node, declared.header.Form.Form, declared.series.Series.Series, declared.series.Series.TheVariants.Price}
-use Rattle.table.specs.{declared.series.Series.TheVariants.Slot, declared.kinds.OperandClass.OperandClass, Kinds.kind_of, Kinds.extremum, Kinds.a_series}
+use Rattle.table.specs.{declared.series.Series.TheVariants.Slot, declared.kinds.OperandClass.OperandClass, Kinds.kind_of, Kinds.extremum, Kinds.is_series}
 use Rattle.table.specs.{Nodes.child_count, Nodes.child_fits, Forest.Forest, Forest.sorts, Forest.Fitting, Trees.Operand, Trees.reach, Series.as_series}
 use Rattle.table.specs.{Series.as_operand, Series.series_by, Reading.child, Reading.operand_by, Reading.operand_from, Reading.operands, Writing.write_operand}
 use Rattle.table.specs.{Writing.write_series, Limits.Within, Limits.WithinSeries, Laws.Kinds.OperandKind, Laws.Kinds.a_const, Laws.Kinds.a_ref}
@@ -18,7 +18,7 @@ none_there : ◌≡◌ {A = List ℕ} [] (1 ∷ []) → ⊥
 none_there h = let z : ◌≡◌ {A = ℕ} 0 1 = cc in omega arith
 
 -- a node whose row says so reads as one
-series_node : (c : Node) (os : List Operand) → eqb (kind_of c.kind).series a_series ≡ true → OperandKind c.kind → IsSeries (operand_from c os)
+series_node : (c : Node) (os : List Operand) → is_series (kind_of c.kind).series ≡ true → OperandKind c.kind → IsSeries (operand_from c os)
 unfolding operand_from operand_by as_series as_operand
 series_node c os is (a_const e r) = absurd (true≢false (sym (rw r at is)))
 series_node c os is (a_ref e r) = rw r

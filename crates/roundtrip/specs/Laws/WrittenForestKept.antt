@@ -5,7 +5,7 @@ use Rattle.words.specs.Prelude.{◌∙◌, ap, lt-ltb, le-leb, arith}
 use Rattle.words.specs.{Limits.most_reach, Limits.most_slots, Limits.most_nodes}
 use Rattle.table.specs.{declared.nodes.Node.Node, declared.kinds.Kind.Kind, declared.header.Form.Form, declared.series.Series.Series}
 use Rattle.table.specs.{declared.series.Series.TheVariants.Price, declared.series.Series.TheVariants.Slot, Kinds.kinds, Kinds.kind_of, Kinds.versions}
-use Rattle.table.specs.{Kinds.since_of, Kinds.over_a_series, Kinds.previous, Kinds.arithmetic, Kinds.extremum, Kinds.comparison, Kinds.crossing, Kinds.all_of}
+use Rattle.table.specs.{Kinds.since_of, Kinds.takes_series, Kinds.previous, Kinds.arithmetic, Kinds.extremum, Kinds.comparison, Kinds.crossing, Kinds.all_of}
 use Rattle.table.specs.{Kinds.any_of, Kinds.negation, Nodes.child_count, Nodes.child_fits, Nodes.kind_right, Nodes.fields_right, Nodes.children_right, Nodes.n_right}
 use Rattle.table.specs.{Nodes.constant_right, Nodes.own_right, Forest.Forest, Forest.sorts, Forest.Fitting, Forest.Sorted, Trees.Operand, Trees.const, Trees.ref}
 use Rattle.table.specs.{Trees.price, Trees.prev, Trees.arith as sums, Trees.extreme, Trees.Condition, Trees.Conditions, Trees.compare, Trees.cross}
@@ -86,7 +86,7 @@ plant_all-sorts i none form w = refl
 plant_all-sorts i (more c cs) form w = plant_of-sorts i c _ form w.0 ∙ ap (λ (l : List ℕ). 2 ∷ l) (plant_all-sorts (i + nodes_of c) cs form w.1)
 
 -- a node whose kind takes any child of its sort
-fits_any : (n : Node) (row : Kind) (f : Forest) → kind_of n.kind ≡ row → eqb row.series over_a_series ≡ false → Fitting n f
+fits_any : (n : Node) (row : Kind) (f : Forest) → kind_of n.kind ≡ row → takes_series row.series ≡ false → Fitting n f
 unfolding Fitting child_fits
 fits_any n row Forest.none h other = tt
 fits_any n row (Forest.tree c below rest) h other = rw (h, other)

@@ -4,7 +4,7 @@ use Rattle.std.specs.Prelude.{◌≡◌, refl, Bool, true, false, cond, not, Lis
 use Rattle.words.specs.Prelude.{sym, ◌∙◌, ap, subst, arith, add-zero}
 use Rattle.words.specs.Prelude.{suc-add, le-ltb, eq-eqb, ne_eqb}
 use Rattle.words.specs.{Limits.most_nesting, Limits.most_reach}
-use Rattle.table.specs.{declared.places.Place.TheVariants.Nowhere, declared.header.Form.Form, Kinds.kind_of, Kinds.over_a_series, Header.form_of, Header.count}
+use Rattle.table.specs.{declared.places.Place.TheVariants.Nowhere, declared.header.Form.Form, Kinds.kind_of, Kinds.takes_series, Header.form_of, Header.count}
 use Rattle.table.specs.{Header.root, Nodes.node_at, Nodes.node_right, Nodes.wrong_node, Nodes.sort_at, Nodes.child_count, Nodes.child_count_at, Nodes.child_sort_at}
 use Rattle.table.specs.{Nodes.child_fits, Nodes.child_fits_at, Order.fits, Order.misfit, Forest.Forest, Forest.first_trees, Forest.other_trees, Forest.node_over}
 use Rattle.table.specs.{Forest.trees, Forest.forest_of, Forest.sorts, Forest.Fitting, Forest.Sorted, Nesting.deeper, Reach.weigh, Reach.own_back}
@@ -46,7 +46,7 @@ none_below : (s : ℕ) → sorts (first_trees 1 Forest.none) ≡ replicate 1 s �
 unfolding sorts first_trees
 none_below s h = let z : ◌≡◌ {A = ℕ} 0 1 = cc in omega arith
 
-over_one : (t : List ℕ) (i : ℕ) → eqb (kind_of (node_at t i).kind).series over_a_series ≡ true → child_count_at t i ≡ 1
+over_one : (t : List ℕ) (i : ℕ) → takes_series (kind_of (node_at t i).kind).series ≡ true → child_count_at t i ≡ 1
 unfolding child_count_at child_count
 over_one t i is = rw (over_series_one (node_at t i).kind is)
 
@@ -56,15 +56,15 @@ unfolding trees node_over first_trees Fitting child_fits_at
 series_below t zero i under fit = absurd (none_below (child_sort_at t i) under)
 series_below t (suc m) i under fit = fit
 
-any_below : (t : List ℕ) (i : ℕ) → eqb (kind_of (node_at t i).kind).series over_a_series ≡ false → child_fits_at t i ≡ true
+any_below : (t : List ℕ) (i : ℕ) → takes_series (kind_of (node_at t i).kind).series ≡ false → child_fits_at t i ≡ true
 unfolding child_fits_at child_fits
 any_below t i other = rw other
 
 first_child : (t : List ℕ) (m i : ℕ) → sorts (first_trees (child_count_at t i) (trees t m (i + 1))) ≡ replicate (child_count_at t i) (child_sort_at t i)
     → Fitting (node_at t i) (first_trees (child_count_at t i) (trees t m (i + 1))) → child_fits_at t i ≡ true
-first_child t m i under fit = go (eqb (kind_of (node_at t i).kind).series over_a_series) refl
+first_child t m i under fit = go (takes_series (kind_of (node_at t i).kind).series) refl
   where
-    go : (b : Bool) → eqb (kind_of (node_at t i).kind).series over_a_series ≡ b → child_fits_at t i ≡ true
+    go : (b : Bool) → takes_series (kind_of (node_at t i).kind).series ≡ b → child_fits_at t i ≡ true
     go true is = series_below t m i (rw (over_one t i is) at under) (rw (over_one t i is) at fit)
     go false other = any_below t i other
 

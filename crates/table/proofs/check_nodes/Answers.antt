@@ -5,9 +5,9 @@ use Rattle.table.proofs.check_nodes.Goals as goal
 
 pub check_order-requires : goal.check_order-requires
 check_order-requires c =
-    head_roots _ _ _ _ _ _
-    c.requires c.root-a.ensures.0 c.root-b.ensures.0
-    c.root-c.ensures.0
+    head_roots _ _ _
+    c.requires c.root-exit.ensures.0 c.root-short_entry.ensures.0
+    c.root-short_exit.ensures.0
     c.total-total.ensures.0
 
 pub returns-in-At : goal.returns-in-At

@@ -8,7 +8,7 @@ use Rattle.table.proofs.check_order.Goals as goal
 pub check_nesting-requires : goal.check_nesting-requires
 check_nesting-requires c = record {
   roots = c.requires;
-  linked_all = linked_all _ _ _ _ _ _ c.requires
+  linked_all = linked_all _ _ _ c.requires
       c.order_all-ends.ensures (sym c.misfits_of-bad.ensures ∙ c.in-Nowhere.is);
 }
 
@@ -24,9 +24,9 @@ returns-in-Nowhere c =
     let none = sym c.misfits_of-bad.ensures ∙ c.in-Nowhere.is in
     let t = c.args.t.now in
     let links =
-    linked_all t _ _ _ _ _ c.requires
+    linked_all t _ _ c.requires
     c.order_all-ends.ensures none in
     stage_none 7 _ _ _ _ _ none c.check_nesting.ensures.0
     (c.check_nesting.ensures.1 ∙ ap (λ (l : List ℕ). ends_for (from8 t) l)
-    (ends_are t _ _ _ _ _ c.requires
+    (ends_are t _ _ c.requires
     c.order_all-ends.ensures links))

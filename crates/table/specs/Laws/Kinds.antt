@@ -4,7 +4,8 @@
 use Rattle.std.specs.Prelude.{◌≡◌, refl, Bool, true, cond, ◌&&◌, List, ℕ, ◌+◌, ◌-◌, ◌≤◌, ◌<◌, get_or, leb, eqb}
 use Rattle.words.specs.Prelude.{sym, ◌∙◌, ap, true≢false, ⊎_elim, arith, eq-zero-or-pos}
 use Rattle.words.specs.Prelude.{List·get_or-eq_default, leb-true, eqb-true, eq-eqb}
-use Rattle.table.specs.{declared.kinds.Kind.Kind, declared.kinds.OperandClass.OperandClass, declared.kinds.OperandClass.TheVariants.NoOperand}
+use Rattle.table.specs.{declared.kinds.Children.Children, declared.kinds.Kind.Kind, declared.kinds.OperandClass.OperandClass}
+use Rattle.table.specs.{declared.kinds.OperandClass.TheVariants.NoOperand}
 use Rattle.table.specs.{declared.kinds.OperandClass.TheVariants.Const, declared.kinds.OperandClass.TheVariants.Ref}
 use Rattle.table.specs.{declared.kinds.OperandClass.TheVariants.Price, declared.kinds.OperandClass.TheVariants.Prev}
 use Rattle.table.specs.{declared.kinds.OperandClass.TheVariants.Arith, declared.kinds.OperandClass.TheVariants.Extreme}
@@ -14,7 +15,7 @@ use Rattle.table.specs.{declared.kinds.ConditionClass.TheVariants.Between, decla
 use Rattle.table.specs.{declared.kinds.ConditionClass.TheVariants.All, declared.kinds.ConditionClass.TheVariants.Any}
 use Rattle.table.specs.{declared.kinds.ConditionClass.TheVariants.Not, declared.kinds.ConditionClass.TheVariants.InPosition}
 use Rattle.table.specs.{declared.kinds.ConditionClass.TheVariants.BarsSince, Kinds.kinds, Kinds.kind_of, Kinds.no_kind, Kinds.constant, Kinds.reference}
-use Rattle.table.specs.{Kinds.price, Kinds.previous, Kinds.arithmetic, Kinds.extremum, Kinds.over_a_series, Kinds.comparison, Kinds.crossing, Kinds.between}
+use Rattle.table.specs.{Kinds.price, Kinds.previous, Kinds.arithmetic, Kinds.extremum, Kinds.takes_series, Kinds.comparison, Kinds.crossing, Kinds.between}
 use Rattle.table.specs.{Kinds.trend, Kinds.all_of, Kinds.any_of, Kinds.negation, Kinds.position, Kinds.bars_since, Kinds.second_version, Kinds.versions}
 use Rattle.table.specs.{Kinds.since_of, Ends.from, Laws.Header.and_parts, Laws.Ends.from_at}
 use Rattle.table.specs.Named as Named
@@ -122,7 +123,7 @@ extreme_numbers k r =
 
 -- and they came with version 2
 extreme_since : ℕ → ℕ
-extreme_since k = cond (eqb (kind_of k).series over_a_series) (since_of k) second_version
+extreme_since k = cond (takes_series (kind_of k).series) (since_of k) second_version
 
 pub extreme_since_lem : (k : ℕ) → kind_of k ≡ extremum → since_of k ≡ second_version
 unfolding extreme_since
@@ -131,17 +132,17 @@ extreme_since_lem k r =
     rw r at (of_rows extreme_since (λ i. second_version) (unfold from kind_of kinds since_of versions extreme_since in refl) k low)
 
 -- what takes a series takes one child
-children_over_series : ℕ → ℕ
-children_over_series k = cond (eqb (kind_of k).series over_a_series) (kind_of k).children 1
+children_over_series : ℕ → Children
+children_over_series k = cond (takes_series (kind_of k).series) (kind_of k).children (Children.Exactly 1)
 
-children_over_series_lem : (k : ℕ) → k < 32 → children_over_series k ≡ 1
-children_over_series_lem = of_rows children_over_series (λ i. 1) (unfold from kind_of kinds children_over_series in refl)
+children_over_series_lem : (k : ℕ) → k < 32 → children_over_series k ≡ Children.Exactly 1
+children_over_series_lem = of_rows children_over_series (λ i. Children.Exactly 1) (unfold from kind_of kinds children_over_series in refl)
 
-pub over_series_one : (k : ℕ) → eqb (kind_of k).series over_a_series ≡ true → (kind_of k).children ≡ 1
+pub over_series_one : (k : ℕ) → takes_series (kind_of k).series ≡ true → (kind_of k).children ≡ Children.Exactly 1
 unfolding children_over_series
 over_series_one k h = ⊎_elim
     (λ z. rw h at (children_over_series_lem k (omega arith)))
-    (λ z. absurd (true≢false (sym h ∙ ap (λ (r : Kind). eqb r.series over_a_series) (past_rows k (omega arith)))))
+    (λ z. absurd (true≢false (sym h ∙ ap (λ (r : Kind). takes_series r.series) (past_rows k (omega arith)))))
     (eq-zero-or-pos (k - 31))
 
 -- ---- conditions

@@ -16,9 +16,9 @@ pub overflow_add-lookback : goal.overflow_add-lookback
 unfolding depth_answer
 overflow_add-lookback c = omega (arith, c.if-lookback-gt-MOST_REACH.false)
 
-pub larger-needed-requires : goal.larger-needed-requires
+pub max-needed-requires : goal.max-needed-requires
 unfolding depth_answer
-larger-needed-requires c = search rules
+max-needed-requires c = search rules
 
 pub row_bytes-row-requires : goal.row_bytes-row-requires
 unfolding depth_answer
@@ -29,8 +29,8 @@ unfolding depth_answer
 overflow_mul-result c =
     omega (
       arith,
-      product c.larger-needed.result c.row_bytes-row.result
-          (rw c.larger-needed.ensures (omega (arith, c.if-lookback-gt-MOST_REACH.false, few _ _ _ (sym c.check-checked.ensures.0 ∙ c.in-Accepted.is))))
+      product c.max-needed.result c.row_bytes-row.result
+          (rw c.max-needed.ensures (omega (arith, c.if-lookback-gt-MOST_REACH.false, few _ _ _ (sym c.check-checked.ensures.0 ∙ c.in-Accepted.is))))
           c.row_bytes-row.ensures.1,
     )
 
@@ -45,7 +45,7 @@ returns-else-lookback-gt-MOST_REACH c =
       ← c.check-checked.ensures.0,
       c.in-Accepted.is,
       le-ltb _ _ c.if-lookback-gt-MOST_REACH.false,
-      c.larger-needed.ensures,
+      c.max-needed.ensures,
       c.row_bytes-row.ensures.0,
       needed _ _ _ _ (sym c.check-checked.ensures.0 ∙ c.in-Accepted.is),
     )

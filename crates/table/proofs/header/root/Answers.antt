@@ -8,13 +8,9 @@ root_next t x = ap (Header.root t) (add-one x)
 
 pub loop-x-init : goal.loop-x-init
 unfolding Header.root
-loop-x-init c = (search rules, refl, search rules)
+loop-x-init c = (refl, search rules)
 
 pub loop-x-preserved : goal.loop-x-preserved
 loop-x-preserved c =
     let l = c.loop-x in
-    let a = c.args in
-    (search rules, omega (arith, l.invariant.1, c.count-at.ensures.0, root_next a.t.now l.x), omega arith)
-
-pub returns : goal.returns
-returns c = let l = c.loop-x in let same : l.x ≡ c.args.tree = omega arith in (rw same at l.invariant.1, omega arith)
+    (omega (arith, l.invariant.0, c.count-at.ensures.0, root_next c.args.t.now l.x), omega arith)

@@ -17,15 +17,15 @@ module _ (t : List ℕ) (e i : ℕ) where
   wrong_none h = rw (left_zero e i h)
 
 pub loop-i-init : goal.loop-i-init
-loop-i-init c = (search rules, ap (λ (m : ℕ). wrong_node c.args.t.now m 0) (sym (sub-zero c.args.total)))
+loop-i-init c = ap (λ (m : ℕ). wrong_node c.args.t.now m 0) (sym (sub-zero c.args.total))
 
 pub loop-i-preserved : goal.loop-i-preserved
 unfolding node_right
-loop-i-preserved c = (search rules, c.loop-i.invariant.1 ∙ wrong_step _ _ _ (search rules) (cc))
+loop-i-preserved c = c.loop-i.invariant ∙ wrong_step _ _ _ (search rules) (cc)
 
-pub returns-else-node_right : goal.returns-else-node_right
+pub returns-then-not-node_right : goal.returns-then-not-node_right
 unfolding node_right
-returns-else-node_right c = sym (c.loop-i.invariant.1 ∙ wrong_found _ _ _ (search rules) (cc))
+returns-then-not-node_right c = sym (c.loop-i.invariant ∙ wrong_found _ _ _ (search rules) (cc))
 
 pub returns : goal.returns
-returns c = sym (c.loop-i.invariant.1 ∙ wrong_none _ _ _ (search rules))
+returns c = sym (c.loop-i.invariant ∙ wrong_none _ _ _ (search rules))

@@ -6,5 +6,5 @@ use Rattle.table.proofs.order.misfits_of.Goals as goal
 
 pub returns : goal.returns
 returns c =
-    c.first_place.ensures ∙ four_misfits _ _ _ _ _ c.requires.roots _ _ _ _
+    c.first_place.ensures ∙ four_misfits _ _ c.requires.roots _ _ _ _
     c.misfit_of-p.ensures c.misfit_of-q.ensures c.misfit_of-r.ensures c.misfit_of-s.ensures

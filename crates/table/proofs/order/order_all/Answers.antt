@@ -7,7 +7,7 @@ use Rattle.table.proofs.order.order_all.Goals as goal
 
 pub returns : goal.returns
 returns c =
-    order_four _ _ _ _ _ _ _ _ _ _
+    order_four _ _ _ _ _ _ _
     c.requires (zeros_at most_nodes) (search rules)
     c.order_tree-one.ensures
     c.order_tree-two.ensures c.order_tree-three.ensures c.order_tree.ensures

@@ -9,7 +9,7 @@ returns-in-At c =
     let roots = c.requires.roots in
     nine_refused _ _
     (sym
-    (fars_are _ _ _ _ _ roots _ _ _ _ _
+    (fars_are _ _ roots _ _ _ _ _
     c.reach_of-w.ensures
     c.reach_of-x.ensures
     c.reach_of-y.ensures
@@ -24,5 +24,5 @@ returns-in-Nowhere c =
     let x = c.reach_of-x.ensures in
     let y = c.reach_of-y.ensures in
     let z = c.reach_of-z.ensures in
-    let near = sym (fars_are _ _ _ _ _ roots _ _ _ _ _ w x y z c.too_far-far.ensures) ∙ c.in-Nowhere.is in
-    nine_accepted _ _ _ near roots.all (rows_are _ _ _ _ _ roots _ _ _ _ _ w x y z near c.rows_needed-rows.ensures)
+    let near = sym (fars_are _ _ roots _ _ _ _ _ w x y z c.too_far-far.ensures) ∙ c.in-Nowhere.is in
+    nine_accepted _ _ _ near roots.all (rows_are _ _ roots _ _ _ _ _ w x y z near c.rows_needed-rows.ensures)
