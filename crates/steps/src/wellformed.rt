@@ -57,7 +57,7 @@ fn looks_within(slots: u64, depth: u64, over: Series, n: u64, back: u64) -> bool
     ensures { result ≡ looks_within slots depth over n back }
 {
     if series_within(slots, over) {
-        let rest = decode::before(n);
+        let rest = n.saturating_sub(1);
         if depth <= rest {
             return false;
         }

@@ -23,12 +23,12 @@ returns-then-p-n c =
     rw (← c.steps_run-n.ensures)
     (came_end _ _ _ _ _ _ _ _ c.run_tests-reached.ensures (omega (arith, c.if-p-n.true)))
 
-pub run_few-requires : goal.run_few-requires
+pub run_rest-requires : goal.run_rest-requires
 unfolding ops_of
-run_few-requires c =
+run_rest-requires c =
     let few = few_run _ _ c.steps_run-n.ensures in
     record { n_bound = few.0; n_bound_2 = (few.1, c.requires, c.run_tests-reached.ensures) }
 
 pub returns : goal.returns
 unfolding ops_of
-returns c = rw (← c.steps_run-n.ensures) c.run_few.ensures
+returns c = rw (← c.steps_run-n.ensures) c.run_rest.ensures

@@ -114,10 +114,6 @@ pub compared-answer-requires : goal.compared-answer-requires
 unfolding Tries
 compared-answer-requires c = search rules
 
-pub left-top-requires : goal.left-top-requires
-unfolding Tries
-left-top-requires c = search rules
-
 pub overflow_add-p-then-is_comparison : goal.overflow_add-p-then-is_comparison
 overflow_add-p-then-is_comparison c =
     omega (arith, c.loop-p-test.true, c.requires.le_places.3)
@@ -129,7 +125,7 @@ loop-p-smaller-then-is_comparison c = omega arith
 -- a comparison
 pub loop-p-preserved-then-is_comparison : goal.loop-p-preserved-then-is_comparison
 loop-p-preserved-then-is_comparison c =
-    rw (c.left-top.ensures, c.compared-answer.ensures, c.at-b.ensures, c.at-a.ensures)
+    rw (c.saturating_sub-top.ensures, c.compared-answer.ensures, c.at-b.ensures, c.at-a.ensures)
     (going_say _ _ _ _ _ _ _ _ _ _ _ c.loop-p.invariant c.loop-p-test.true 2 _
     (rw (← c.step_at-x.ensures.0) (does_compare _ _ _ _ _ _ _ _ (sym c.is_comparison.ensures ∙ c.if-is_comparison.true))))
 
@@ -140,10 +136,6 @@ tested-answer-requires c = search rules
 pub taken-requires : goal.taken-requires
 unfolding Tries
 taken-requires c = search rules
-
-pub left-top-requires-else-is_comparison : goal.left-top-requires-else-is_comparison
-unfolding Tries
-left-top-requires-else-is_comparison c = search rules
 
 pub overflow_add-p-else-is_comparison : goal.overflow_add-p-else-is_comparison
 unfolding Tries
@@ -156,7 +148,7 @@ loop-p-smaller-else-is_comparison c = omega arith
 -- a cross or Between
 pub loop-p-preserved-else-is_comparison : goal.loop-p-preserved-else-is_comparison
 loop-p-preserved-else-is_comparison c =
-    rw (c.left-top-else-is_comparison.ensures, c.taken.ensures, c.tested-answer.ensures)
+    rw (c.saturating_sub-top-else-is_comparison.ensures, c.taken.ensures, c.tested-answer.ensures)
     (going_say _ _ _ _ _ _ _ _ _ _ _ c.loop-p.invariant c.loop-p-test.true _ _
     (rw (← c.step_at-x.ensures.0) (does_test _ _ _ _ _ _ _ _ (sym c.is_test.ensures ∙ c.if-is_test.true)
     (sym c.is_comparison.ensures ∙ c.if-is_comparison.false))))
@@ -216,14 +208,10 @@ pub at-b-requires-then-is_operation : goal.at-b-requires-then-is_operation
 unfolding Tries
 at-b-requires-then-is_operation c = search rules
 
-pub left-under-requires : goal.left-under-requires
-unfolding Tries
-left-under-requires c = search rules
-
 -- its result has a place: two are taken first, and there is at least one
 pub overflow_add-under : goal.overflow_add-under
 overflow_add-under c =
-    omega (arith, c.left-under.ensures, c.loop-p.invariant.tall, c.requires.le_places)
+    omega (arith, c.saturating_sub-under.ensures, c.loop-p.invariant.tall, c.requires.le_places)
 
 pub combined-requires : goal.combined-requires
 unfolding Tries
@@ -231,11 +219,11 @@ combined-requires c = search rules
 
 pub put-requires-then-is_operation : goal.put-requires-then-is_operation
 put-requires-then-is_operation c =
-    let inv = c.loop-p.invariant in record { i_in_bounds = omega (arith, c.left-under.ensures, inv.tall, inv.room.numbers, c.requires.le_places); i_in_bounds_2 = omega (arith, c.left-under.ensures, inv.tall, inv.room.theres, c.requires.le_places) }
+    let inv = c.loop-p.invariant in record { i_in_bounds = omega (arith, c.saturating_sub-under.ensures, inv.tall, inv.room.numbers, c.requires.le_places); i_in_bounds_2 = omega (arith, c.saturating_sub-under.ensures, inv.tall, inv.room.theres, c.requires.le_places) }
 
 pub overflow_add-top-then-is_operation-3 : goal.overflow_add-top-then-is_operation-3
 overflow_add-top-then-is_operation-3 c =
-    omega (arith, c.left-under.ensures, c.loop-p.invariant.tall, c.requires.le_places)
+    omega (arith, c.saturating_sub-under.ensures, c.loop-p.invariant.tall, c.requires.le_places)
 
 -- a step further is within the list
 pub overflow_add-p-then-is_operation : goal.overflow_add-p-then-is_operation
@@ -254,7 +242,7 @@ loop-p-preserved-then-is_operation c =
       c.put-then-is_operation.ensures.numbers_after,
       c.put-then-is_operation.ensures.there_after,
       c.combined.ensures,
-      c.left-under.ensures,
+      c.saturating_sub-under.ensures,
       c.at-b-then-is_operation.ensures,
       c.at-a-then-is_operation.ensures,
     )
@@ -289,16 +277,12 @@ returns-then-top-places-2 c =
       c.if-top-places-2.true,
     ))
 
-pub before-requires : goal.before-requires
-unfolding Tries
-before-requires c = search rules
-
 -- at most 65,536 visits for each step
 pub overflow_add-visits-then-is_among-3 : goal.overflow_add-visits-then-is_among-3
 overflow_add-visits-then-is_among-3 c =
     omega (
       arith,
-      c.before-then-is_among-3.ensures,
+      c.saturating_sub.ensures,
       c.step_at-x.ensures.1,
       c.loop-p-test.true,
       c.loop-p.invariant.came.seen,
@@ -336,7 +320,7 @@ loop-p-smaller-then-is_among-3 c =
 -- a look over rows
 pub loop-p-preserved-then-is_among-3 : goal.loop-p-preserved-then-is_among-3
 loop-p-preserved-then-is_among-3 c =
-    rw (c.put-then-is_among-3.ensures.numbers_after, c.put-then-is_among-3.ensures.there_after, c.before-then-is_among-3.ensures)
+    rw (c.put-then-is_among-3.ensures.numbers_after, c.put-then-is_among-3.ensures.there_after, c.saturating_sub.ensures)
     (going_look _ _ _ _ _ _ _ _ _ _ _ c.loop-p.invariant c.loop-p-test.true _ _ c.step_at-x.ensures.1
     (omega (arith, c.loop-p.invariant.tall, c.if-top-places-2.false))
     (rw (← c.step_at-x.ensures.0) (c.look-value.ensures _ _ _ _ _ _)))
