@@ -4,6 +4,7 @@ ghost use Rattle.std.specs.Prelude.{◌≡◌, ℕ, ◌-◌, ◌≤◌, ◌<◌}
 ghost use Rattle.rows.specs.History.{history_of};
 ghost use Rattle.rules.specs.Values.{price_of, slot_of, combined};
 ghost use Rattle.rules.specs.Meaning.{series_at, extreme_over, extreme_at, value};
+ghost use Rattle.rules.specs.declared.values.Value.TheVariants.{Number};
 ghost use Rattle.rules.specs.Flat.{flat_operand_at};
 
 use crate::shapes::OperandShape;
@@ -38,9 +39,34 @@ fn series_of_bar(rows: &[u64], slots: usize, over: Series, bar: usize) -> Value
     }
 }
 
+// One of the five numbers that a row itself holds, of a bar that is there.
+fn field_of_bar(rows: &[u64], slots: usize, bar: usize, selector: u8) -> f64
+    requires { (bar < (history_of slots rows.now).rows) × (selector < 5) }
+    ensures { result ≡ price_of ((history_of slots rows.now).word bar) selector }
+{
+    values::field_at(
+        rows,
+        bar * (words::limits::ROW_FIXED + slots),
+        selector as usize + 1,
+    )
+}
+
+// The best of such a number over the bars from `oldest` to `bar`, which is there: it starts at the oldest. A loop of its own: by `series_of_bar` it
+// takes 18 instructions a bar more.
+fn field_over(kind: u8, rows: &[u64], slots: usize, selector: u8, oldest: usize, bar: usize) -> f64
+    requires { (oldest ≤ bar) × (bar < (history_of slots rows.now).rows) × (selector < 5) }
+    ensures { Number result ≡ extreme_over (history_of slots rows.now) kind (Series.Price selector) oldest (bar - oldest) }
+{
+    let mut best = field_of_bar(rows, slots, oldest, selector);
+    for at in oldest..bar {
+        best = values::took(kind, best, field_of_bar(rows, slots, at + 1, selector));
+    }
+    best
+}
+
 // The best of a price or a slot over the bars from `oldest` to `bar`, which is there: it starts at the oldest, and is missing if it
 // is absent in any.
-fn extreme_over(
+fn series_over(
     kind: u8,
     rows: &[u64],
     slots: usize,
@@ -56,6 +82,26 @@ fn extreme_over(
         best = values::pick(kind, best, series_of_bar(rows, slots, over, at + 1));
     }
     best
+}
+
+// The same, by the loop for what is looked over.
+fn extreme_over(
+    kind: u8,
+    rows: &[u64],
+    slots: usize,
+    over: Series,
+    oldest: usize,
+    bar: usize,
+) -> Value
+    requires { (oldest ≤ bar) × (bar < (history_of slots rows.now).rows) }
+    ensures { result ≡ extreme_over (history_of slots rows.now) kind over oldest (bar - oldest) }
+{
+    match over {
+        Series::Price(selector) if selector < 5 => {
+            Value::Number(field_over(kind, rows, slots, selector, oldest, bar))
+        }
+        _ => series_over(kind, rows, slots, over, oldest, bar),
+    }
 }
 
 // Highest or Lowest at a bar that is there: over that bar and the n - 1 before it.

@@ -2,7 +2,7 @@
 use Rattle.words.specs.Prelude.{◌-◌, ◌≤◌, ◌≡◌}
 use Rattle.rows.specs.{History.history_of}
 use Rattle.rules.specs.{Meaning.extreme_over}
-use Rattle.rules.proofs.operands.extreme_over.Given as goal
+use Rattle.rules.proofs.operands.series_over.Given as goal
 
 abbrev pub invariant-loop-at : goal.invariant-loop-at
 invariant-loop-at l = (l.oldest ≤ l.at) × (l.best ≡ extreme_over (history_of l.slots l.rows) l.kind l.over l.oldest (l.at - l.oldest))
