@@ -1,13 +1,9 @@
-use Rattle.words.specs.Prelude.{rules, sym, ◌∙◌, arith}
+use Rattle.words.specs.Prelude.{sym, ◌∙◌, arith}
 use Rattle.steps.specs.{Places.Tries, Laws.Classes.range_in, Laws.Classes.range_out}
 use Rattle.steps.proofs.{Said.does_compare, Said.does_test, Said.does_jump, Said.does_arith, Coming.came_end, Going.fresh_long}
 use Rattle.steps.proofs.{Going.going_start, Going.going_leaf, Going.going_give, Going.going_look, Going.going_say, Going.going_set, Going.going_pass}
 use Rattle.steps.proofs.{Going.going_stay}
 use Rattle.steps.proofs.machine.run_with.Goals as goal
-
-pub row_count-held-requires : goal.row_count-held-requires
-unfolding Tries
-row_count-held-requires c = search rules
 
 pub newest_row-newest-requires : goal.newest_row-newest-requires
 unfolding Tries
@@ -16,10 +12,6 @@ newest_row-newest-requires c = let held = c.row_count-held.ensures in (held, rw 
 pub loop-p-init : goal.loop-p-init
 unfolding Tries
 loop-p-init c = going_start _ _ _ _ _ _ _ _ _ _ c.requires.fresh c.requires.le_places.4
-
-pub step_at-x-requires : goal.step_at-x-requires
-unfolding Tries
-step_at-x-requires c = search rules
 
 pub overflow_add-visits : goal.overflow_add-visits
 unfolding Tries
@@ -30,10 +22,6 @@ overflow_add-visits c =
       c.loop-p.invariant.came.seen,
       c.requires.le_places.3,
     )
-
-pub is_among-requires : goal.is_among-requires
-unfolding Tries
-is_among-requires c = search rules
 
 pub shape_of-numbers-then-top-places : goal.shape_of-numbers-then-top-places
 unfolding Tries
@@ -57,10 +45,6 @@ leaf-requires c =
     let held = c.row_count-held.ensures in
     let kind = range_in _ _ _ (sym c.is_among.ensures ∙ c.if-is_among.true) in
     record { held_value = (held, rw held c.requires.le_places.2); newest_value = c.newest_row-newest.ensures; le_kind = kind }
-
-pub put-requires : goal.put-requires
-unfolding Tries
-put-requires c = search rules
 
 pub overflow_add-top-then-is_among : goal.overflow_add-top-then-is_among
 unfolding Tries
@@ -86,33 +70,13 @@ pub overflow_cast-kind : goal.overflow_cast-kind
 unfolding Tries
 overflow_cast-kind c = omega arith
 
-pub is_test-requires : goal.is_test-requires
-unfolding Tries
-is_test-requires c = search rules
-
-pub is_comparison-requires : goal.is_comparison-requires
-unfolding Tries
-is_comparison-requires c = search rules
-
 pub overflow_add-top-then-is_comparison : goal.overflow_add-top-then-is_comparison
 unfolding Tries
 overflow_add-top-then-is_comparison c = omega arith
 
-pub at-a-requires : goal.at-a-requires
-unfolding Tries
-at-a-requires c = search rules
-
 pub overflow_add-top-then-is_comparison-2 : goal.overflow_add-top-then-is_comparison-2
 unfolding Tries
 overflow_add-top-then-is_comparison-2 c = omega arith
-
-pub at-b-requires : goal.at-b-requires
-unfolding Tries
-at-b-requires c = search rules
-
-pub compared-answer-requires : goal.compared-answer-requires
-unfolding Tries
-compared-answer-requires c = search rules
 
 pub overflow_add-p-then-is_comparison : goal.overflow_add-p-then-is_comparison
 overflow_add-p-then-is_comparison c =
@@ -129,14 +93,6 @@ loop-p-preserved-then-is_comparison c =
     (going_say _ _ _ _ _ _ _ _ _ _ _ c.loop-p.invariant c.loop-p-test.true 2 _
     (rw (← c.step_at-x.ensures.0) (does_compare _ _ _ _ _ _ _ _ (sym c.is_comparison.ensures ∙ c.if-is_comparison.true))))
 
-pub tested-answer-requires : goal.tested-answer-requires
-unfolding Tries
-tested-answer-requires c = search rules
-
-pub taken-requires : goal.taken-requires
-unfolding Tries
-taken-requires c = search rules
-
 pub overflow_add-p-else-is_comparison : goal.overflow_add-p-else-is_comparison
 unfolding Tries
 overflow_add-p-else-is_comparison c = omega arith
@@ -152,14 +108,6 @@ loop-p-preserved-else-is_comparison c =
     (going_say _ _ _ _ _ _ _ _ _ _ _ c.loop-p.invariant c.loop-p-test.true _ _
     (rw (← c.step_at-x.ensures.0) (does_test _ _ _ _ _ _ _ _ (sym c.is_test.ensures ∙ c.if-is_test.true)
     (sym c.is_comparison.ensures ∙ c.if-is_comparison.false))))
-
-pub is_among-requires-else-is_test : goal.is_among-requires-else-is_test
-unfolding Tries
-is_among-requires-else-is_test c = search rules
-
-pub landing-p-requires : goal.landing-p-requires
-unfolding Tries
-landing-p-requires c = search rules
 
 pub loop-p-smaller-then-answer-kind : goal.loop-p-smaller-then-answer-kind
 unfolding Tries
@@ -188,34 +136,18 @@ loop-p-preserved-else-answer-kind c =
     going_stay _ _ _ _ _ _ _ _ _ _ _ c.loop-p.invariant c.loop-p-test.true
     (rw (← c.step_at-x.ensures.0) (does_jump _ _ _ _ _ _ _ _ kind.0 kind.1 ∙ rw c.if-answer-kind.false))
 
-pub is_operation-requires : goal.is_operation-requires
-unfolding Tries
-is_operation-requires c = search rules
-
 pub overflow_add-top-then-is_operation : goal.overflow_add-top-then-is_operation
 unfolding Tries
 overflow_add-top-then-is_operation c = omega arith
-
-pub at-a-requires-then-is_operation : goal.at-a-requires-then-is_operation
-unfolding Tries
-at-a-requires-then-is_operation c = search rules
 
 pub overflow_add-top-then-is_operation-2 : goal.overflow_add-top-then-is_operation-2
 overflow_add-top-then-is_operation-2 c =
     omega (arith, c.loop-p.invariant.tall, c.requires.le_places.1)
 
-pub at-b-requires-then-is_operation : goal.at-b-requires-then-is_operation
-unfolding Tries
-at-b-requires-then-is_operation c = search rules
-
 -- its result has a place: two are taken first, and there is at least one
 pub overflow_add-under : goal.overflow_add-under
 overflow_add-under c =
     omega (arith, c.saturating_sub-under.ensures, c.loop-p.invariant.tall, c.requires.le_places)
-
-pub combined-requires : goal.combined-requires
-unfolding Tries
-combined-requires c = search rules
 
 pub put-requires-then-is_operation : goal.put-requires-then-is_operation
 put-requires-then-is_operation c =
@@ -249,14 +181,6 @@ loop-p-preserved-then-is_operation c =
     (going_give _ _ _ _ _ _ _ _ _ _ _ c.loop-p.invariant c.loop-p-test.true 2 _
     (omega (arith, c.loop-p.invariant.tall, c.requires.le_places.0))
     (rw (← c.step_at-x.ensures.0) (does_arith _ _ _ _ _ _ _ _ kind)))
-
-pub is_among-requires-else-is_operation : goal.is_among-requires-else-is_operation
-unfolding Tries
-is_among-requires-else-is_operation c = search rules
-
-pub out_of_places-requires : goal.out_of_places-requires
-unfolding Tries
-out_of_places-requires c = search rules
 
 pub shape_of-numbers-then-top-places-2 : goal.shape_of-numbers-then-top-places-2
 unfolding Tries

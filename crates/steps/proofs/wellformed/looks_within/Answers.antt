@@ -1,5 +1,5 @@
 -- The depth less n - 1 is compared, so that nothing wraps.
-use Rattle.words.specs.Prelude.{rules, lt-ltb, le-ltb, arith, ℕ, ◌+◌, ◌-◌, ◌<◌, ◌≤◌, ◌≡◌, sym, ◌∙◌, ⊎_elim, ltb}
+use Rattle.words.specs.Prelude.{lt-ltb, le-ltb, arith, ℕ, ◌+◌, ◌-◌, ◌<◌, ◌≤◌, ◌≡◌, sym, ◌∙◌, ⊎_elim, ltb}
 use Rattle.words.specs.{Laws.Numbers.less_or_not}
 use Rattle.steps.specs.{WellFormed.looks_within}
 use Rattle.steps.proofs.wellformed.looks_within.Goals as goal
@@ -8,10 +8,6 @@ shifted : (back rest depth : ℕ) → rest < depth → ltb back (depth - rest) �
 shifted back rest depth h =
     ⊎_elim (λ (near : back + rest < depth). rw (lt-ltb (back + rest) depth near, lt-ltb back (depth - rest) (omega arith)))
     (λ (far : depth ≤ back + rest). rw (le-ltb (back + rest) depth far, le-ltb back (depth - rest) (omega arith))) (less_or_not (back + rest) depth)
-
-pub series_within-requires : goal.series_within-requires
-unfolding looks_within
-series_within-requires c = search rules
 
 pub returns-then-depth-rest : goal.returns-then-depth-rest
 unfolding looks_within
