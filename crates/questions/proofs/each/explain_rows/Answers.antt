@@ -1,4 +1,4 @@
-use Rattle.words.specs.Prelude.{ℕ, ◌+◌, ◌-◌, ◌*◌, ◌/◌, ◌<◌, ◌≤◌, ◌≡◌, refl, sym, ap, ◌∙◌, subst, arith, rules, length}
+use Rattle.words.specs.Prelude.{ℕ, ◌+◌, ◌-◌, ◌*◌, ◌/◌, ◌<◌, ◌≤◌, ◌≡◌, refl, sym, ap, ◌∙◌, subst, arith, length}
 use Rattle.questions.specs.{Over.asked_rows, Over.place_words, Over.lines_over, Over.counts_over, Over.explanation_over, Laws.Places.lines_long}
 use Rattle.questions.specs.{Laws.Places.counts_long}
 use Rattle.questions.proofs.{Asking.place_fits, Asking.rows_held, Asking.rows_few, Asking.upto_there, Asking.lines_turn, Asking.counts_turn}
@@ -10,14 +10,6 @@ few R n i long p q l = (omega arith, omega arith)
 
 four : (n i : ℕ) → i < n / 4 → 4 * i ≤ n
 four n i l = omega arith
-
-pub slots-slots-requires : goal.slots-slots-requires
-unfolding asked_rows
-slots-slots-requires c = search rules
-
-pub row_count-requires : goal.row_count-requires
-unfolding asked_rows
-row_count-requires c = search rules
 
 pub overflow_sub-older : goal.overflow_sub-older
 unfolding asked_rows
