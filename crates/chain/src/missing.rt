@@ -53,16 +53,6 @@ fn leaf_gone(
     }
 }
 
-// One less, 0 for 0.
-fn one_less(n: u64) -> usize
-    ensures { result ≡ n - 1 }
-{
-    if n == 0 {
-        return 0;
-    }
-    (n - 1) as usize
-}
-
 // Node i, a price or a slot, where it is missing `back` bars before `bar`.
 fn series_gone(rows: &[u64], slots: usize, over: Series, i: usize, bar: usize, back: usize) -> Found
     ensures { result ≡ leaf_gone (history_of slots rows.now) (as_operand over) i bar back }
@@ -98,18 +88,13 @@ fn newest_gone(
     requires { back + more ≤ 1099511627776 }
     ensures { result ≡ newest_gone (history_of slots rows.now) (as_operand over) i bar back more }
 {
-    let mut at = back;
-    let mut m = more;
-    while 0 < m {
+    for at in back..back + more {
         match series_gone(rows, slots, over, i, bar, at) {
             Found::Leaf(node, far) => return Found::Leaf(node, far),
-            Found::Nowhere => {
-                at += 1;
-                m -= 1;
-            }
+            Found::Nowhere => {}
         }
     }
-    series_gone(rows, slots, over, i, bar, at)
+    series_gone(rows, slots, over, i, bar, back + more)
 }
 
 // The first missing leaf of the operand at node i, looked at `back` bars before `bar`.
@@ -145,7 +130,8 @@ pub(crate) fn first_missing(
         }
         OperandShape::Extreme(_, a, n) => {
             let over = series_in(t, a);
-            newest_gone(rows, slots, over, a, bar, back, one_less(n))
+            let more = n.saturating_sub(1) as usize;
+            newest_gone(rows, slots, over, a, bar, back, more)
         }
         OperandShape::NoOperand => leaf_gone(t, ends, rows, slots, i, bar, back, left),
     }

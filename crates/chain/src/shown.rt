@@ -19,7 +19,7 @@ use rules::operands::eval_operand;
 use rules::position::{Entered, PositionState};
 use rules::shapes;
 use rules::shapes::ConditionShape;
-use rules::values::{Value, in_position};
+use rules::values::{Value, bars_since, in_position};
 
 // What a line shows: its sort, and how many of the four words are used.
 #[derive(Clone, Copy)]
@@ -240,16 +240,6 @@ fn show_since(s: PositionState) -> Detail
     } else {
         bare(NO_ENTRY)
     }
-}
-
-// This bar's number less the entry bar's, 0 where that is not below.
-fn bars_since(seen: u64, bar: u64) -> u64
-    ensures { result ≡ seen - 1 - bar }
-{
-    if seen <= bar {
-        return 0;
-    }
-    seen - 1 - bar
 }
 
 // What the line of the condition at node i shows.

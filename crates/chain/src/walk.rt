@@ -39,13 +39,11 @@ fn first_with(
         (λ j. holds (history_of slots rows.now) s (flat_condition_at left t.now ends.now j) bar) answer n first }
 {
     let mut at = first;
-    let mut m = n;
-    while 0 < m {
+    for m in 0..n {
         if eval_condition(t, ends, rows, slots, s, at, bar, left) == answer {
             return Next::Node(at);
         }
         at = shapes::end_in(ends, at);
-        m -= 1;
     }
     Next::Stop
 }
@@ -82,24 +80,13 @@ fn next_node(
 }
 
 // The eight words of a line.
+#[tactic(auto, unfolding(crate::specs::Lines::line_from))]
 fn line_of(node: usize, yes: bool, d: Detail) -> [u64; 8]
     ensures { result ≡ line_from node yes d }
 {
-    if yes {
-        return [
-            node as u64,
-            1,
-            d.sort,
-            d.used,
-            d.first,
-            d.second,
-            d.third,
-            d.fourth,
-        ];
-    }
     [
         node as u64,
-        0,
+        u64::from(yes),
         d.sort,
         d.used,
         d.first,

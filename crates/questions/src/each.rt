@@ -69,11 +69,9 @@ pub(crate) fn explain_rows(
     let slots = table::header::slots(t) as usize;
     let n = positions.len() / POSITION_WORDS;
     let older = rows::row_count(rows, slots) - n;
-    let mut i: usize = 0;
-    while i < n {
+    for i in 0..n {
         let upto = first_rows(rows, ROW_FIXED + slots, older + i + 1);
         let position = position_at(positions, i);
         explain_row(t, ends, tree, upto, position, i, lines, counts);
-        i += 1;
     }
 }

@@ -37,12 +37,8 @@ pub(crate) fn all_right(positions: &[u64], n: usize) -> bool
     requires { position_words * n ≤ length positions.now }
     ensures { result ≡ all_right positions.now n }
 {
-    let mut i: usize = 0;
-    while i < n {
-        let position = position_at(positions, i);
-        if state_right(position) {
-            i += 1;
-        } else {
+    for i in 0..n {
+        if !state_right(position_at(positions, i)) {
             return false;
         }
     }

@@ -3,7 +3,7 @@ ghost use Rattle.std.specs.Prelude.{◌≡◌, ◌≤◌, length};
 ghost use Rattle.words.specs.Limits.{setting_words};
 ghost use Rattle.records.specs.Settings.{flag_of, level_of, sizing_of, slippage_of, risk_of, terms_of, order_type_of, entries_of, settings_of};
 
-use crate::fields::{float_in, word_in};
+use crate::fields::{float_in, padded, word_in};
 use execution::level::{Entries, OrderType};
 use execution::optional::Optional;
 use execution::terms::{Risk, Sizing, Slippage, Terms};
@@ -182,9 +182,7 @@ pub fn settings_of(words: &[u64]) -> Settings
     ensures { result ≡ settings_of words.now }
 {
     if words.len() < SETTING_WORDS {
-        let mut padded = [0u64; SETTING_WORDS];
-        words::put(&mut padded, 0, words);
-        return whole_settings(&padded);
+        return whole_settings(&padded::<SETTING_WORDS>(words));
     }
     whole_settings(words)
 }

@@ -6,7 +6,7 @@ ghost use Rattle.records.specs.StateWords.{order_of, entry_kind_of, entered_of, 
 ghost use Rattle.records.specs.StateWords.{order_kind, order_delay, waits_for, kind_word, level_word, limit_word};
 ghost use Rattle.records.specs.StateWords.{entered_kind, entry_bar, words_of};
 
-use crate::fields::{float_in, word_in};
+use crate::fields::{float_in, padded, word_in};
 use crate::state::{Counts, Last, Order, Position, State};
 use execution::level::OrderKind;
 use portfolio::Portfolio;
@@ -116,9 +116,7 @@ pub fn state_of(words: &[u64]) -> State
     ensures { result ≡ state_of words.now }
 {
     if words.len() < STATE_WORDS {
-        let mut padded = [0u64; STATE_WORDS];
-        words::put(&mut padded, 0, words);
-        return whole_state(&padded);
+        return whole_state(&padded::<STATE_WORDS>(words));
     }
     whole_state(words)
 }

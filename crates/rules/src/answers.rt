@@ -37,14 +37,11 @@ pub fn state_right(s: PositionState) -> bool
 }
 
 // The newest bar: the last row's, and 0 where there is none.
+#[tactic(auto, unfolding(crate::specs::Meaning::newest))]
 pub fn newest(rows: &[u64], slots: usize) -> usize
     ensures { result ≡ Meaning.newest (history_of slots rows.now) }
 {
-    let held = rows::row_count(rows, slots);
-    if held == 0 {
-        return 0;
-    }
-    held - 1
+    rows::row_count(rows, slots).saturating_sub(1)
 }
 
 // What a tree says at the newest bar, by the evaluator; an absent tree says no.

@@ -170,13 +170,11 @@ fn eval_group(
         (group all (grow_conditions (flat_condition_at left t.now ends.now) ends.now n first)) bar }
 {
     let mut at = first;
-    let mut m = n;
-    while 0 < m {
+    for m in 0..n {
         if eval_condition(t, ends, rows, slots, s, at, bar, left) != all {
             return !all;
         }
         at = shapes::end_in(ends, at);
-        m -= 1;
     }
     all
 }

@@ -239,11 +239,8 @@ pub fn since_entry(selector: u8, k: u64, s: PositionState) -> bool
 }
 
 // This bar's number less the entry bar's, 0 where that is not below.
-fn bars_since(seen: u64, bar: u64) -> u64
+pub fn bars_since(seen: u64, bar: u64) -> u64
     ensures { result ≡ seen - 1 - bar }
 {
-    if seen <= bar {
-        return 0;
-    }
-    seen - 1 - bar
+    seen.saturating_sub(1).saturating_sub(bar)
 }

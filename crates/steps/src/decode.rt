@@ -28,34 +28,28 @@ pub(crate) const PAST_LOOKS: u8 = 13;
 const FIRST_TEST: u8 = kinds::GT;
 
 // Whether a step is an operation on two values.
+#[tactic(auto, unfolding(crate::specs::Bytes::is_operation))]
 pub(crate) fn is_operation(step: u8) -> bool
     ensures { result ≡ is_operation step }
 {
-    if step < kinds::ADD {
-        return false;
-    }
-    step < kinds::HIGHEST
+    (kinds::ADD..kinds::HIGHEST).contains(&step)
 }
 
 // Whether a step compares two values.
+#[tactic(auto, unfolding(crate::specs::Bytes::is_comparison))]
 pub(crate) fn is_comparison(step: u8) -> bool
     ensures { result ≡ is_comparison step }
 {
-    if step < FIRST_TEST {
-        return false;
-    }
-    step < kinds::CROSS_ABOVE
+    (FIRST_TEST..kinds::CROSS_ABOVE).contains(&step)
 }
 
 // Whether a step tests values: a comparison, a cross or Between. It takes 64 bits, since it is asked of a step's first eight bytes as one
 // number too, of which the kind is the lowest: a yes says that the others are zero.
+#[tactic(auto, unfolding(crate::specs::Bytes::is_test_step))]
 pub(crate) fn is_test(step: u64) -> bool
     ensures { result ≡ is_test_step step }
 {
-    if step < FIRST_TEST as u64 {
-        return false;
-    }
-    step < kinds::RISING as u64
+    (FIRST_TEST as u64..kinds::RISING as u64).contains(&step)
 }
 
 // A byte as a number of 64 bits.
@@ -123,25 +117,11 @@ pub(crate) fn step_at(list: &[u8], p: usize) -> Step
     read_step(list, 16 * p)
 }
 
-// One less than n; 0 where n is 0.
-pub fn before(n: u64) -> u64
-    ensures { result ≡ n - 1 }
-{
-    if n == 0 {
-        return 0;
-    }
-    n - 1
-}
-
 // The look-back to the newest of n rows, from that to the oldest; 0 where there are not so many.
 pub(crate) fn newest_back(oldest: u64, n: u64) -> u64
     ensures { result ≡ oldest - (n - 1) }
 {
-    let rest = before(n);
-    if oldest < rest {
-        return 0;
-    }
-    oldest - rest
+    oldest.saturating_sub(n.saturating_sub(1))
 }
 
 // What a step of Highest or Lowest says: kinds 9 to 12.

@@ -15,10 +15,7 @@ use table::kinds;
 pub(crate) fn is_among(kind: u8, low: u8, high: u8) -> bool
     ensures { result ≡ (leb low kind && ltb kind high) }
 {
-    if kind < low {
-        return false;
-    }
-    kind < high
+    (low..high).contains(&kind)
 }
 
 // Whether there is a position, or none, as wanted.

@@ -12,7 +12,7 @@ ghost use Rattle.rules.specs.Meaning.{series_at, extreme_over};
 ghost use Rattle.steps.specs.Machine.{ago};
 ghost use Rattle.steps.specs.Looks.{over_of, of_row, place_of, InRow, best_after, PassedOver, Stopped};
 
-use crate::{decode, leaves};
+use crate::leaves;
 use rows::ring;
 use rules::values;
 use rules::values::Value;
@@ -67,8 +67,7 @@ fn pass_rows(
         × Stopped (over_of slot which) rows.now slots base count result.passed result.stopped result.later }
 {
     let mut at = base;
-    let mut k: usize = 0;
-    while k < count {
+    for k in 0..count {
         let found = series_in(rows, slots, at, slot, which);
         match found {
             Value::Missing => {
@@ -83,7 +82,6 @@ fn pass_rows(
                     return stopped_at(k, found);
                 }
                 at += words::limits::ROW_FIXED + slots;
-                k += 1;
             }
         }
     }
@@ -141,15 +139,6 @@ fn series_at(
     Value::Number(values::price_at(rows, base, which))
 }
 
-// How many rows there are from one of `held` to the words' end, `count` at most.
-fn from_there(held: usize, row: usize, count: usize) -> usize
-    requires { row < held }
-    ensures { result ≡ min (held - row) count }
-{
-    let last = held - row;
-    if last < count { last } else { count }
-}
-
 // The rows after row `at` that are passed over, up to `newest` or the words' end.
 fn passed_from(
     kind: u8,
@@ -173,7 +162,7 @@ fn passed_from(
 {
     let row = ring::place(held, first, at + 1);
     let base = row * (words::limits::ROW_FIXED + slots);
-    let count = from_there(held, row, newest - at);
+    let count = (held - row).min(newest - at);
     pass(kind, rows, slots, base, count, slot, which, best)
 }
 
@@ -296,7 +285,7 @@ fn quick_from(
         if word < INFINITY {
             let row = ring::place(held, first, at + 1);
             let base = row * (words::limits::ROW_FIXED + slots);
-            let count = from_there(held, row, newest - at);
+            let count = (held - row).min(newest - at);
             let quick = quick_rows(kind, rows, slots, base, count, slot, which, word);
             return Looked {
                 at: at + (count - quick.left),
@@ -396,7 +385,7 @@ pub(crate) fn extreme_ago(
         return Value::Missing;
     }
     let newest = held - 1 - back as usize;
-    let rest = decode::before(n);
+    let rest = n.saturating_sub(1);
     if (newest as u64) < rest {
         return Value::Missing;
     }

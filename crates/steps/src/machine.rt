@@ -24,10 +24,13 @@ pub struct Ran {
     pub visits: usize,
 }
 
-// The places for values that a run has at first, and those that it is given where they do not suffice. No translated list needs more.
-const FEW_PLACES: usize = 16;
+// How many values a run has room for at first, then, where they do not suffice, and last: four that are always missing, and the places.
+// No translated list needs more than the second; the last has a place for each step.
+const FEW: usize = 20;
 
-const SOME_PLACES: usize = 64;
+const SOME: usize = 68;
+
+const ALL: usize = 1028;
 
 // How far a run with so many places for values came, and whether it stopped because a value found no place.
 #[derive(Clone, Copy)]
@@ -85,23 +88,12 @@ fn tested(kind: u8, numbers: &[f64], there: &[bool], top: usize) -> bool
     values::within(c, b, a)
 }
 
-// How many values are left where `take` of them go.
-fn left(top: usize, take: usize) -> usize
-    ensures { result ≡ top - take }
-{
-    if top < take { 0 } else { top - take }
-}
-
 // How many steps of a list are run: whole ones, and no more than 1,024.
+#[tactic(auto, unfolding(crate::specs::Bytes::steps_run))]
 fn steps_run(list: &[u8]) -> usize
     ensures { result ≡ steps_run list.now }
 {
-    let whole = list.len() / 16;
-    if whole < MOST_STEPS {
-        whole
-    } else {
-        MOST_STEPS
-    }
+    (list.len() / 16).min(MOST_STEPS)
 }
 
 // A run that stopped because a value found no place.
@@ -167,11 +159,11 @@ fn run_with(
                 let a = stack::at(numbers, there, top + 3);
                 let b = stack::at(numbers, there, top + 2);
                 answer = values::compared(kind, b, a);
-                top = left(top, 2);
+                top = top.saturating_sub(2);
                 p += 1;
             } else {
                 answer = tested(kind, numbers, there, top);
-                top = left(top, taken(kind));
+                top = top.saturating_sub(taken(kind));
                 p += 1;
             }
         } else if doing::is_among(kind, decode::JUMP_AT_NO, decode::PAST_JUMPS) {
@@ -183,7 +175,7 @@ fn run_with(
         } else if decode::is_operation(kind) {
             let a = stack::at(numbers, there, top + 3);
             let b = stack::at(numbers, there, top + 2);
-            let under = left(top, 2);
+            let under = top.saturating_sub(2);
             stack::put(numbers, there, under + 4, values::combined(kind, b, a));
             top = under + 1;
             p += 1;
@@ -191,7 +183,7 @@ fn run_with(
             if top == places {
                 return out_of_places(answer, visits);
             }
-            visits += decode::before(x.skip) as usize;
+            visits += x.skip.saturating_sub(1) as usize;
             let value = look(x, rows, slots, held, first);
             stack::put(numbers, there, top + 4, value);
             top += 1;
@@ -207,8 +199,8 @@ fn run_with(
     }
 }
 
-// The run from a place on of n steps, at most 1,024, with a place for each: none can be short of one.
-fn run_whole(
+// The run from a place on of n steps, at most 1,024, with room for so many values.
+fn run_in<const ROOM: usize>(
     list: &[u8],
     n: usize,
     rows: &[u64],
@@ -218,33 +210,33 @@ fn run_whole(
     from: usize,
     told: bool,
     seen: usize,
-) -> Ran
+) -> Tried
+    requires room { (5 ≤ ROOM) × (ROOM ≤ 1028) }
     requires n_bound { n ≤ steps_in list.now }
     requires n_bound_2 { (n ≤ 1024) × (first ≤ (history_of slots rows.now).rows)
         × Came (ring_of slots first rows.now) s list.now n [] told seen from }
-    ensures { result ≡ ran_over (ring_of slots first rows.now) s (ops_from list.now 0 n) }
+    ensures { Tries (ran_over (ring_of slots first rows.now) s (ops_from list.now 0 n)) n (ROOM - 4) result.full result.ran }
 {
-    let mut numbers = [0.0; 1028];
-    let mut there = [false; 1028];
-    let tried = run_with(
+    let mut numbers = [0.0; ROOM];
+    let mut there = [false; ROOM];
+    run_with(
         list,
         n,
         rows,
         slots,
         first,
         s,
-        MOST_STEPS,
+        ROOM - 4,
         &mut numbers,
         &mut there,
         from,
         told,
         seen,
-    );
-    tried.ran
+    )
 }
 
-// The same with places that suffice for every translated list.
-fn run_some(
+// The run from a place on of n steps, at most 1,024. With few places first: the fewer there are, the less has to be cleared.
+fn run_rest(
     list: &[u8],
     n: usize,
     rows: &[u64],
@@ -260,65 +252,16 @@ fn run_some(
         × Came (ring_of slots first rows.now) s list.now n [] told seen from }
     ensures { result ≡ ran_over (ring_of slots first rows.now) s (ops_from list.now 0 n) }
 {
-    let mut numbers = [0.0; 68];
-    let mut there = [false; 68];
-    let tried = run_with(
-        list,
-        n,
-        rows,
-        slots,
-        first,
-        s,
-        SOME_PLACES,
-        &mut numbers,
-        &mut there,
-        from,
-        told,
-        seen,
-    );
-    if tried.full {
-        return run_whole(list, n, rows, slots, first, s, from, told, seen);
+    let few = run_in::<FEW>(list, n, rows, slots, first, s, from, told, seen);
+    if !few.full {
+        return few.ran;
     }
-    tried.ran
-}
-
-// The same with few places first: the fewer there are, the less has to be cleared.
-fn run_few(
-    list: &[u8],
-    n: usize,
-    rows: &[u64],
-    slots: usize,
-    first: usize,
-    s: PositionState,
-    from: usize,
-    told: bool,
-    seen: usize,
-) -> Ran
-    requires n_bound { n ≤ steps_in list.now }
-    requires n_bound_2 { (n ≤ 1024) × (first ≤ (history_of slots rows.now).rows)
-        × Came (ring_of slots first rows.now) s list.now n [] told seen from }
-    ensures { result ≡ ran_over (ring_of slots first rows.now) s (ops_from list.now 0 n) }
-{
-    let mut numbers = [0.0; 20];
-    let mut there = [false; 20];
-    let tried = run_with(
-        list,
-        n,
-        rows,
-        slots,
-        first,
-        s,
-        FEW_PLACES,
-        &mut numbers,
-        &mut there,
-        from,
-        told,
-        seen,
-    );
-    if tried.full {
-        return run_some(list, n, rows, slots, first, s, from, told, seen);
+    let some = run_in::<SOME>(list, n, rows, slots, first, s, from, told, seen);
+    if !some.full {
+        return some.ran;
     }
-    tried.ran
+    let all = run_in::<ALL>(list, n, rows, slots, first, s, from, told, seen);
+    all.ran
 }
 
 // Runs a list over rows of so many slots each, the oldest of them row `first`. Bytes at the end that are no whole step are not
@@ -335,7 +278,7 @@ fn run_from(list: &[u8], rows: &[u64], slots: usize, first: usize, s: PositionSt
     if p == n {
         return Ran { answer, visits };
     }
-    run_few(list, n, rows, slots, first, s, p, answer, visits)
+    run_rest(list, n, rows, slots, first, s, p, answer, visits)
 }
 
 // Runs a list over rows of so many slots each.

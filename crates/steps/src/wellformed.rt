@@ -16,17 +16,11 @@ pub enum Formed {
     Bad(usize),
 }
 
+#[tactic(auto, unfolding(crate::specs::WellFormed::zeros))]
 fn zeros(selector: u8, skip: u64, n: u64, bits: u64) -> bool
     ensures { result ≡ zeros selector skip n bits }
 {
-    if selector == 0 {
-        if skip == 0 {
-            if n == 0 {
-                return bits == 0;
-            }
-        }
-    }
-    false
+    selector == 0 && skip == 0 && n == 0 && bits == 0
 }
 
 // Whether a look over `skip` rows, the oldest of them n rows back, is over one at least, and ends by the newest; and the constant is zero.
@@ -57,7 +51,7 @@ fn looks_within(slots: u64, depth: u64, over: Series, n: u64, back: u64) -> bool
     ensures { result ≡ looks_within slots depth over n back }
 {
     if series_within(slots, over) {
-        let rest = decode::before(n);
+        let rest = n.saturating_sub(1);
         if depth <= rest {
             return false;
         }
@@ -67,20 +61,17 @@ fn looks_within(slots: u64, depth: u64, over: Series, n: u64, back: u64) -> bool
 }
 
 // Whether the step is of a known kind and the fields that its kind does not use are zero.
+#[tactic(auto, unfolding(crate::specs::WellFormed::unused_fields_zero))]
 fn unused_fields_zero(x: Step, op: Op) -> bool
     ensures { result ≡ unused_fields_zero x op }
 {
     match op {
         Op::Const(_, _) => zeros(x.selector, x.skip, 0, 0),
-        Op::Ref(_, _) => zeros(0, x.skip, 0, x.bits),
-        Op::Price(_, _) => zeros(0, x.skip, 0, x.bits),
+        Op::Ref(_, _) | Op::Price(_, _) => zeros(0, x.skip, 0, x.bits),
         Op::Extreme(_, _, _, _) => rows_fit(x.skip, x.n, x.bits),
-        Op::Arith(_) => zeros(x.selector, x.skip, x.n, x.bits),
-        Op::Compare(_) => zeros(x.selector, x.skip, x.n, x.bits),
-        Op::Cross(_) => zeros(x.selector, x.skip, x.n, x.bits),
-        Op::Between => zeros(x.selector, x.skip, x.n, x.bits),
-        Op::Answer(_) => zeros(x.selector, x.skip, x.n, x.bits),
-        Op::Turn => zeros(x.selector, x.skip, x.n, x.bits),
+        Op::Arith(_) | Op::Compare(_) | Op::Cross(_) | Op::Between | Op::Answer(_) | Op::Turn => {
+            zeros(x.selector, x.skip, x.n, x.bits)
+        }
         Op::InPosition(_) => zeros(0, x.skip, x.n, x.bits),
         Op::BarsSinceEntry(_, _) => zeros(0, x.skip, 0, x.bits),
         Op::JumpIf(_, _) => zeros(x.selector, 0, x.n, x.bits),

@@ -17,10 +17,7 @@ fn put_four(room: &mut [u8], p: usize, a: u8, b: u8, c: u8, d: u8)
     requires { p + 4 ≤ length room.old }
     ensures { room.new ≡ write_at room.old p (a ∷ b ∷ c ∷ d ∷ []) }
 {
-    room[p] = a;
-    room[p + 1] = b;
-    room[p + 2] = c;
-    room[p + 3] = d;
+    room[p..p + 4].copy_from_slice(&[a, b, c, d]);
 }
 
 // The lowest byte of a number.
@@ -82,7 +79,7 @@ fn put_extreme(room: &mut [u8], at: usize, kind: u8, over: Series, n: u64, back:
     requires { (back + (n - 1) ≤ 8192) × Fits room.old at (Op.Extreme kind over n back ∷ []) }
     ensures { Wrote room.old at (Op.Extreme kind over n back ∷ []) room.new result }
 {
-    let oldest = back + decode::before(n);
+    let oldest = back + n.saturating_sub(1);
     match over {
         Series::Price(selector) => put_step(room, at, kind, selector as u64, n, oldest, 0),
         Series::Slot(slot) => put_step(room, at, slot_kind(kind), slot, n, oldest, 0),

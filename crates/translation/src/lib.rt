@@ -161,22 +161,19 @@ fn emit_each(
         room.new result }
 {
     let jump = jump_kind(all);
-    let mut m = n;
     let mut i = j;
     let mut end = at;
     let mut last = at;
-    while 0 < m {
+    for k in 0..n {
         let p = emit_condition(t, ends, i, left, room, end);
         end = emit::put_step(room, p, kinds::CONST, 0, 0, 0, last as u64);
         last = p;
         i = shapes::end_in(ends, i);
-        m -= 1;
     }
-    while m < n {
+    for m in 0..n {
         let before = read64(room, 16 * last + 8) as usize;
         emit::put_step(room, last, jump, 0, (end - last - 1) as u64, 0, 0);
         last = before;
-        m += 1;
     }
     end
 }

@@ -1,4 +1,4 @@
-use Rattle.words.specs.Prelude.{false, arith}
+use Rattle.words.specs.Prelude.{◌+◌, ◌-◌, ◌<◌, ◌≤◌, ◌≡◌, false, arith}
 use Rattle.rules.specs.{Flat.grow_condition}
 use Rattle.steps.specs.{declared.step.Op.TheVariants.Answer, declared.step.Op.TheVariants.Turn, declared.step.Op.TheVariants.InPosition}
 use Rattle.steps.specs.{declared.step.Op.TheVariants.BarsSinceEntry, Bytes.step_of}
@@ -177,83 +177,77 @@ emit_condition-returns-in-NoCondition t c =
     let put = c.put_step-in-NoCondition.ensures in let is = grown _ _ _ _ c.if-left-eq0.false _ _ c.condition_shape.ensures c.in-NoCondition.is in
     rw (is, code-none) (wrote_one _ _ (Answer false) _ _ put.value put.room_after)
 
-pub emit_each-loop-m-init : goal.emit_each-loop-m-init
+pub emit_each-loop-k-init : goal.emit_each-loop-k-init
 unfolding grow_condition step_of
-emit_each-loop-m-init t c =
-    begin _ _ _ _ _ _ _ c.requires.fits c.requires.j_bound c.well_formed.1.1.1.1.1.1.0.0
+emit_each-loop-k-init t c =
+    let all : c.args.n - 0 ≡ c.args.n = omega arith in
+    rw all (begin _ _ _ _ _ _ _ c.requires.fits c.requires.j_bound c.well_formed.1.1.1.1.1.1.0.0)
 
 pub emit_each-emit_condition-p-requires : goal.emit_each-emit_condition-p-requires
 unfolding grow_condition step_of
 emit_each-emit_condition-p-requires t c =
-    (omega (arith, c.decreases), next _ _ _ _ _ _ _ c.loop-m-test.true c.loop-m.invariant)
+    let some : 0 < c.args.n - c.loop-k.k = omega arith in
+    (omega (arith, c.decreases), next _ _ _ _ _ _ _ some c.loop-k.invariant)
 
 pub emit_each-put_step-end-requires : goal.emit_each-put_step-end-requires
 unfolding grow_condition step_of
 emit_each-put_step-end-requires t c =
-    link_fits _ _ _ _ _ _ _ c.loop-m-test.true c.loop-m.invariant c.emit_condition-p.ensures
+    let some : 0 < c.args.n - c.loop-k.k = omega arith in
+    link_fits _ _ _ _ _ _ _ some c.loop-k.invariant c.emit_condition-p.ensures
 
-pub emit_each-overflow_sub-m : goal.emit_each-overflow_sub-m
+pub emit_each-loop-k-preserved : goal.emit_each-loop-k-preserved
 unfolding grow_condition step_of
-emit_each-overflow_sub-m t c =
-    omega (arith, c.loop-m-test.true)
+emit_each-loop-k-preserved t c =
+    let put = c.put_step-end.ensures in
+    let some : 0 < c.args.n - c.loop-k.k = omega arith in
+    let fewer : c.args.n - (c.loop-k.k + 1) ≡ c.args.n - c.loop-k.k - 1 = omega arith in
+    rw (fewer, c.end_in-i.ensures, put.value) (push _ _ _ _ _ _ _ some c.loop-k.invariant c.emit_condition-p.ensures put.room_after)
 
-pub emit_each-loop-m-smaller : goal.emit_each-loop-m-smaller
+pub emit_each-loop-m-init : goal.emit_each-loop-m-init
 unfolding grow_condition step_of
-emit_each-loop-m-smaller t c =
-    omega (arith, c.loop-m-test.true)
-
-pub emit_each-loop-m-preserved : goal.emit_each-loop-m-preserved
-unfolding grow_condition step_of
-emit_each-loop-m-preserved t c =
-    let put = c.put_step-end.ensures in rw (c.end_in-i.ensures, put.value) (push _ _ _ _ _ _ _ c.loop-m-test.true c.loop-m.invariant c.emit_condition-p.ensures put.room_after)
-
-pub emit_each-loop-m-2-init : goal.emit_each-loop-m-2-init
-unfolding grow_condition step_of
-emit_each-loop-m-2-init t c =
-    turn _ _ _ _ _ _ _ c.loop-m-test.false c.loop-m.invariant
+emit_each-loop-m-init t c =
+    let none : c.args.n - c.loop-k.k ≡ 0 = omega arith in
+    turn _ _ _ _ _ _ _ (omega arith) (rw none at c.loop-k.invariant)
 
 pub emit_each-overflow_mul-last : goal.emit_each-overflow_mul-last
 unfolding grow_condition step_of
 emit_each-overflow_mul-last t c =
-    omega (arith, (pop _ _ _ _ _ _ _ c.loop-m-2-test.true c.loop-m-2.invariant).fits, c.loop-m-2.invariant.long)
+    let more : c.loop-m.m < c.args.n = omega arith in
+    omega (arith, (pop _ _ _ _ _ _ _ more c.loop-m.invariant).fits, c.loop-m.invariant.long)
 
 pub emit_each-overflow_add-last : goal.emit_each-overflow_add-last
 unfolding grow_condition step_of
 emit_each-overflow_add-last t c =
-    omega (arith, (pop _ _ _ _ _ _ _ c.loop-m-2-test.true c.loop-m-2.invariant).fits, c.loop-m-2.invariant.long)
+    let more : c.loop-m.m < c.args.n = omega arith in
+    omega (arith, (pop _ _ _ _ _ _ _ more c.loop-m.invariant).fits, c.loop-m.invariant.long)
 
 pub emit_each-overflow_sub-end : goal.emit_each-overflow_sub-end
 unfolding grow_condition step_of
 emit_each-overflow_sub-end t c =
-    omega (arith, (pop _ _ _ _ _ _ _ c.loop-m-2-test.true c.loop-m-2.invariant).above)
+    let more : c.loop-m.m < c.args.n = omega arith in
+    omega (arith, (pop _ _ _ _ _ _ _ more c.loop-m.invariant).above)
 
-pub emit_each-overflow_sub-end-in-loop-m-2 : goal.emit_each-overflow_sub-end-in-loop-m-2
+pub emit_each-overflow_sub-end-in-loop-m : goal.emit_each-overflow_sub-end-in-loop-m
 unfolding grow_condition step_of
-emit_each-overflow_sub-end-in-loop-m-2 t c =
-    omega (arith, (pop _ _ _ _ _ _ _ c.loop-m-2-test.true c.loop-m-2.invariant).above)
+emit_each-overflow_sub-end-in-loop-m t c =
+    let more : c.loop-m.m < c.args.n = omega arith in
+    omega (arith, (pop _ _ _ _ _ _ _ more c.loop-m.invariant).above)
 
 pub emit_each-put_step-requires : goal.emit_each-put_step-requires
 unfolding grow_condition step_of
 emit_each-put_step-requires t c =
-    (pop _ _ _ _ _ _ _ c.loop-m-2-test.true c.loop-m-2.invariant).fits
+    let more : c.loop-m.m < c.args.n = omega arith in
+    (pop _ _ _ _ _ _ _ more c.loop-m.invariant).fits
 
-pub emit_each-overflow_add-m : goal.emit_each-overflow_add-m
+pub emit_each-loop-m-preserved : goal.emit_each-loop-m-preserved
 unfolding grow_condition step_of
-emit_each-overflow_add-m t c =
-    omega (arith, c.loop-m-2-test.true)
-
-pub emit_each-loop-m-2-smaller : goal.emit_each-loop-m-2-smaller
-unfolding grow_condition step_of
-emit_each-loop-m-2-smaller t c =
-    omega (arith, c.loop-m-2-test.true)
-
-pub emit_each-loop-m-2-preserved : goal.emit_each-loop-m-2-preserved
-unfolding grow_condition step_of
-emit_each-loop-m-2-preserved t c =
+emit_each-loop-m-preserved t c =
+    let more : c.loop-m.m < c.args.n = omega arith in
     let put = rw c.jump_kind-jump.ensures at c.put_step.ensures.room_after in
-    rw c.read64-before.ensures ((pop _ _ _ _ _ _ _ c.loop-m-2-test.true c.loop-m-2.invariant).closes _ put)
+    rw c.read64-before.ensures ((pop _ _ _ _ _ _ _ more c.loop-m.invariant).closes _ put)
 
 pub emit_each-returns : goal.emit_each-returns
 unfolding grow_condition step_of
 emit_each-returns t c =
-    finish _ _ _ _ _ _ _ c.loop-m-2-test.false c.loop-m-2.invariant
+    let none : c.args.n ≤ c.loop-m.m = omega arith in
+    finish _ _ _ _ _ _ _ none c.loop-m.invariant

@@ -8,17 +8,11 @@ use Rattle.translation.proofs.+emit_condition_emit_each.Given as goal
 abbrev pub decreases-emit_condition : goal.decreases-emit_condition
 decreases-emit_condition l = 2 * l.left
 
+abbrev pub invariant-emit_each-loop-k : goal.invariant-emit_each-loop-k
+invariant-emit_each-loop-k l = Writing (not l.all) (flat_condition_at l.left l.t l.ends) l.ends l.n l.j l.initial.room l.at (l.n - l.k) l.last l.i l.end l.room
+
 abbrev pub invariant-emit_each-loop-m : goal.invariant-emit_each-loop-m
-invariant-emit_each-loop-m l = Writing (not l.all) (flat_condition_at l.left l.t l.ends) l.ends l.n l.j l.initial.room l.at l.m l.last l.i l.end l.room
-
-abbrev pub decreases-emit_each-loop-m : goal.decreases-emit_each-loop-m
-decreases-emit_each-loop-m l = l.m
-
-abbrev pub invariant-emit_each-loop-m-2 : goal.invariant-emit_each-loop-m-2
-invariant-emit_each-loop-m-2 l = Closing (not l.all) (flat_condition_at l.left l.t l.ends) l.ends l.n l.j l.fn.room l.at l.m l.last l.end l.room
-
-abbrev pub decreases-emit_each-loop-m-2 : goal.decreases-emit_each-loop-m-2
-decreases-emit_each-loop-m-2 l = l.n - l.m
+invariant-emit_each-loop-m l = Closing (not l.all) (flat_condition_at l.left l.t l.ends) l.ends l.n l.j l.fn.room l.at l.m l.last l.end l.room
 
 abbrev pub decreases-emit_each : goal.decreases-emit_each
 decreases-emit_each l = 2 * l.left + 1

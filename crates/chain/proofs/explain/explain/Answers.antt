@@ -1,34 +1,14 @@
 -- The table's refusals first, then 10, then 13, then the lines: what the walk finds is the tree's chain. Assumes nothing.
-use Rattle.words.specs.Prelude.{rules, arith}
+use Rattle.words.specs.Prelude.{arith}
 use Rattle.table.specs.{Bytes.Bytes}
 use Rattle.chain.proofs.{Explaining.refused, Explaining.too_small, Explaining.unwhole, Explaining.unright, Explaining.explains}
 use Rattle.chain.proofs.explain.explain.Goals as goal
-
-pub check-checked-requires : goal.check-checked-requires
-unfolding Bytes
-check-checked-requires c = search rules
 
 pub returns-then-lines : goal.returns-then-lines
 unfolding Bytes
 returns-then-lines c =
     let both = too_small _ _ _ _ _ _ _ _ c.check-checked.ensures.0 c.in-Accepted.is c.if-lines.true in
     record { value = both.0; lines_after = both.1 }
-
-pub slots-slots-requires : goal.slots-slots-requires
-unfolding Bytes
-slots-slots-requires c = search rules
-
-pub are_whole-requires : goal.are_whole-requires
-unfolding Bytes
-are_whole-requires c = search rules
-
-pub state_right-requires : goal.state_right-requires
-unfolding Bytes
-state_right-requires c = search rules
-
-pub explain_tree-requires : goal.explain_tree-requires
-unfolding Bytes
-explain_tree-requires c = search rules
 
 pub returns-then-state_right : goal.returns-then-state_right
 unfolding Bytes

@@ -38,7 +38,7 @@ unfolding is_leaf Bytes
 newest_gone-requires t c =
     let small = extreme_small _ _ _ _ c.operand_shape.ensures (λ j. omega (arith, c.type_inv.t j)) _ _ _
     c.in-Extreme.is in
-    omega (arith, small, c.one_less.ensures)
+    omega (arith, small, c.saturating_sub-more.ensures)
 
 pub returns-in-Const : goal.returns-in-Const
 unfolding is_leaf Bytes
@@ -70,7 +70,7 @@ pub returns-in-Extreme : goal.returns-in-Extreme
 unfolding is_leaf Bytes
 returns-in-Extreme t c =
     gone_extreme _ _ _ _ _ _ _ _ c.if-left-eq0.false _ c.operand_shape.ensures _ _ _ _ _ c.in-Extreme.is
-    c.series_in-over.ensures c.one_less.ensures c.newest_gone.ensures
+    c.series_in-over.ensures c.saturating_sub-more.ensures c.newest_gone.ensures
 
 pub returns-in-NoOperand : goal.returns-in-NoOperand
 unfolding is_leaf Bytes

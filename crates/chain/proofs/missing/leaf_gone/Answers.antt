@@ -1,15 +1,11 @@
 -- Missing where there is no such bar, or by the value there. Assumes nothing.
-use Rattle.words.specs.Prelude.{rules, lt-ltb, le-ltb}
+use Rattle.words.specs.Prelude.{lt-ltb, le-ltb}
 use Rattle.chain.specs.{Missing.leaf_gone, Missing.gone_if}
 use Rattle.chain.proofs.missing.leaf_gone.Goals as goal
 
 pub returns-then-bar-back : goal.returns-then-bar-back
 unfolding leaf_gone gone_if
 returns-then-bar-back c = rw (lt-ltb _ _ c.if-bar-back.true)
-
-pub eval_operand-requires : goal.eval_operand-requires
-unfolding leaf_gone gone_if
-eval_operand-requires c = search rules
 
 pub returns-in-Missing : goal.returns-in-Missing
 unfolding leaf_gone gone_if

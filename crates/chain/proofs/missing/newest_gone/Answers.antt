@@ -1,30 +1,28 @@
-use Rattle.words.specs.Prelude.{refl, sym, ◌∙◌, arith}
+use Rattle.words.specs.Prelude.{◌+◌, ◌-◌, ◌<◌, ◌≤◌, ◌≡◌, sym, ◌∙◌, arith}
 use Rattle.chain.proofs.{Newest.newest_here, Newest.newest_further, Newest.newest_last}
 use Rattle.chain.proofs.missing.newest_gone.Goals as goal
 
-pub loop-m-init : goal.loop-m-init
-loop-m-init c = (refl, omega arith)
+pub loop-at-init : goal.loop-at-init
+loop-at-init c =
+    let all : c.args.back + c.args.more - c.args.back ≡ c.args.more = omega arith in
+    rw all
 
 pub returns-in-Leaf : goal.returns-in-Leaf
 returns-in-Leaf c =
-    sym (c.loop-m.invariant.0 ∙ newest_here _ _ _ _ _ _ _ _ _ c.loop-m-test.true
-    c.series_gone.ensures c.in-Leaf.is)
+    let l = c.loop-at in
+    let some : 0 < c.args.back + c.args.more - l.at = omega arith in
+    sym (l.invariant ∙ newest_here _ _ _ _ _ _ _ _ _ some c.series_gone.ensures c.in-Leaf.is)
 
-pub overflow_add-at : goal.overflow_add-at
-overflow_add-at c = omega (arith, c.loop-m.invariant.1)
-
-pub overflow_sub-m : goal.overflow_sub-m
-overflow_sub-m c = omega arith
-
-pub loop-m-smaller : goal.loop-m-smaller
-loop-m-smaller c = omega arith
-
-pub loop-m-preserved : goal.loop-m-preserved
-loop-m-preserved c = (
-  c.loop-m.invariant.0 ∙ newest_further _ _ _ _ _ _ _ c.loop-m-test.true
-      c.series_gone.ensures c.in-Nowhere.is,
-  omega (arith, c.loop-m.invariant.1, c.loop-m-test.true),
-)
+pub loop-at-preserved : goal.loop-at-preserved
+loop-at-preserved c =
+    let l = c.loop-at in
+    let some : 0 < c.args.back + c.args.more - l.at = omega arith in
+    let rest : c.args.back + c.args.more - (l.at + 1) ≡ c.args.back + c.args.more - l.at - 1 = omega arith in
+    rw rest (l.invariant ∙ newest_further _ _ _ _ _ _ _ some c.series_gone.ensures c.in-Nowhere.is)
 
 pub returns : goal.returns
-returns c = c.series_gone-2.ensures ∙ sym (c.loop-m.invariant.0 ∙ newest_last _ _ _ _ _ _ c.loop-m-test.false)
+returns c =
+    let l = c.loop-at in
+    let last : l.at ≡ c.args.back + c.args.more = omega arith in
+    let over : c.args.back + c.args.more - l.at ≤ 0 = omega arith in
+    c.series_gone-2.ensures ∙ rw (← last) (sym (l.invariant ∙ newest_last _ _ _ _ _ _ over))

@@ -1,5 +1,5 @@
 -- Missing where there is no such bar or no such row; a price is there, a slot by its bit. Assumes nothing.
-use Rattle.words.specs.Prelude.{rules, ◌-◌, arith}
+use Rattle.words.specs.Prelude.{◌-◌, arith}
 use Rattle.rows.specs.{History.history_of, Laws.RowEnds.row_ends}
 use Rattle.rules.proofs.{Grown.below}
 use Rattle.chain.specs.{Missing.gone_if}
@@ -9,10 +9,6 @@ use Rattle.chain.proofs.missing.series_gone.Goals as goal
 pub returns-then-bar-back : goal.returns-then-bar-back
 unfolding history_of gone_if
 returns-then-bar-back c = series_early _ _ _ _ _ c.if-bar-back.true
-
-pub row_count-requires : goal.row_count-requires
-unfolding history_of gone_if
-row_count-requires c = search rules
 
 pub returns-then-row_count-at : goal.returns-then-row_count-at
 unfolding history_of gone_if
@@ -29,10 +25,6 @@ unfolding history_of gone_if
 overflow_mul-at c =
     let a = c.args in
     omega (arith, row_ends a.slots a.rows.now (a.bar - a.back) (below c.row_count.ensures c.if-row_count-at.false))
-
-pub slot_at-requires : goal.slot_at-requires
-unfolding history_of gone_if
-slot_at-requires c = search rules
 
 pub returns-in-Price : goal.returns-in-Price
 unfolding history_of gone_if

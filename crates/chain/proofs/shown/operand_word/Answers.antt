@@ -1,15 +1,6 @@
 -- One return for each case of the operand's value. Assumes nothing.
-use Rattle.words.specs.Prelude.{rules}
 use Rattle.chain.specs.{Lines.value_word}
 use Rattle.chain.proofs.shown.operand_word.Goals as goal
-
-pub eval_operand-requires : goal.eval_operand-requires
-unfolding value_word
-eval_operand-requires c = search rules
-
-pub word_of-requires : goal.word_of-requires
-unfolding value_word
-word_of-requires c = search rules
 
 pub returns-in-Missing : goal.returns-in-Missing
 unfolding value_word

@@ -1,22 +1,14 @@
 -- Each return is a case of `shown` at the condition that stands at the node. Assumes nothing.
-use Rattle.words.specs.Prelude.{rules, arith}
+use Rattle.words.specs.Prelude.{arith}
 use Rattle.table.specs.{Bytes.Bytes}
 use Rattle.chain.specs.{Laws.Shapes.trend_small}
 use Rattle.chain.proofs.{Showing.gone, Showing.worth, Showing.shown_deep, Showing.shown_compare, Showing.shown_cross, Showing.shown_between}
 use Rattle.chain.proofs.{Showing.shown_trend, Showing.shown-group, Showing.shown_not, Showing.shown_position, Showing.shown_since_lem, Showing.shown_none}
 use Rattle.chain.proofs.shown.show.Goals as goal
 
-pub bare-requires : goal.bare-requires
-unfolding gone worth Bytes
-bare-requires c = search rules
-
 pub returns-then-left-eq0 : goal.returns-then-left-eq0
 unfolding gone worth Bytes
 returns-then-left-eq0 c = shown_deep _ _ _ _ _ _ _ _ c.if-left-eq0.true c.bare.ensures
-
-pub condition_shape-requires : goal.condition_shape-requires
-unfolding gone worth Bytes
-condition_shape-requires c = search rules
 
 pub show_compare-requires : goal.show_compare-requires
 unfolding gone worth Bytes
@@ -36,26 +28,6 @@ show_trend-requires c =
     let small = trend_small _ _ _ _ c.condition_shape.ensures (λ j. omega (arith, c.type_inv.t j))
     _ _ _ c.in-Trend.is in
     omega (arith, small)
-
-pub bare-requires-in-Group : goal.bare-requires-in-Group
-unfolding gone worth Bytes
-bare-requires-in-Group c = search rules
-
-pub bare-requires-in-Not : goal.bare-requires-in-Not
-unfolding gone worth Bytes
-bare-requires-in-Not c = search rules
-
-pub bare-requires-in-InPosition : goal.bare-requires-in-InPosition
-unfolding gone worth Bytes
-bare-requires-in-InPosition c = search rules
-
-pub show_since-requires : goal.show_since-requires
-unfolding gone worth Bytes
-show_since-requires c = search rules
-
-pub bare-requires-in-NoCondition : goal.bare-requires-in-NoCondition
-unfolding gone worth Bytes
-bare-requires-in-NoCondition c = search rules
 
 pub returns-in-Compare : goal.returns-in-Compare
 unfolding gone worth Bytes

@@ -1,12 +1,8 @@
 -- The first bar, or the missing leaf now and before, or the four values. Assumes nothing.
-use Rattle.words.specs.Prelude.{rules, arith, eq-eqb, ne_eqb}
+use Rattle.words.specs.Prelude.{arith, eq-eqb, ne_eqb}
 use Rattle.chain.specs.{Lines.detail_of}
 use Rattle.chain.proofs.{Showing.four_shown}
 use Rattle.chain.proofs.shown.show_cross.Goals as goal
-
-pub bare-requires : goal.bare-requires
-unfolding detail_of
-bare-requires c = search rules
 
 pub returns-then-bar-eq0 : goal.returns-then-bar-eq0
 unfolding detail_of
@@ -19,30 +15,6 @@ two_missing-now-requires c = omega arith
 pub two_missing-before-requires : goal.two_missing-before-requires
 unfolding detail_of
 two_missing-before-requires c = omega arith
-
-pub first_found-gone-requires : goal.first_found-gone-requires
-unfolding detail_of
-first_found-gone-requires c = search rules
-
-pub operand_word-x-requires : goal.operand_word-x-requires
-unfolding detail_of
-operand_word-x-requires c = search rules
-
-pub operand_word-y-requires : goal.operand_word-y-requires
-unfolding detail_of
-operand_word-y-requires c = search rules
-
-pub operand_word-x_before-requires : goal.operand_word-x_before-requires
-unfolding detail_of
-operand_word-x_before-requires c = search rules
-
-pub operand_word-y_before-requires : goal.operand_word-y_before-requires
-unfolding detail_of
-operand_word-y_before-requires c = search rules
-
-pub leaf_or-requires : goal.leaf_or-requires
-unfolding detail_of
-leaf_or-requires c = search rules
 
 pub returns : goal.returns
 unfolding detail_of

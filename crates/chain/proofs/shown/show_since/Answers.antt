@@ -1,23 +1,7 @@
 -- One return for each way to have no entry bar, and one for the count. Assumes nothing.
-use Rattle.words.specs.Prelude.{refl, rules}
+use Rattle.words.specs.Prelude.{refl}
 use Rattle.chain.specs.{Chain.shown_since, Lines.detail_of, Lines.detail}
 use Rattle.chain.proofs.shown.show_since.Goals as goal
-
-pub in_position-requires : goal.in_position-requires
-unfolding shown_since detail_of
-in_position-requires c = search rules
-
-pub bare-requires : goal.bare-requires
-unfolding shown_since detail_of
-bare-requires c = search rules
-
-pub bars_since-requires : goal.bars_since-requires
-unfolding shown_since detail_of
-bars_since-requires c = search rules
-
-pub bare-requires-else-in_position : goal.bare-requires-else-in_position
-unfolding shown_since detail_of
-bare-requires-else-in_position c = search rules
 
 pub returns-in-Never : goal.returns-in-Never
 unfolding shown_since detail_of

@@ -1,5 +1,4 @@
 -- Each return is where the chain goes from a node of that shape. Assumes nothing.
-use Rattle.words.specs.Prelude.{rules}
 use Rattle.chain.specs.{Flat.next_by}
 use Rattle.chain.proofs.{Going.next_deep, Going.next_by_lem}
 use Rattle.chain.proofs.walk.next_node.Goals as goal
@@ -7,14 +6,6 @@ use Rattle.chain.proofs.walk.next_node.Goals as goal
 pub returns-then-left-eq0 : goal.returns-then-left-eq0
 unfolding next_by
 returns-then-left-eq0 c = rw (next_deep _ _ _ _ _ _ _ c.if-left-eq0.true)
-
-pub condition_shape-requires : goal.condition_shape-requires
-unfolding next_by
-condition_shape-requires c = search rules
-
-pub first_with-requires : goal.first_with-requires
-unfolding next_by
-first_with-requires c = search rules
 
 pub returns-in-Group : goal.returns-in-Group
 unfolding next_by

@@ -1,4 +1,4 @@
-use Rattle.words.specs.Prelude.{ℕ, ◌+◌, ◌-◌, ◌*◌, ◌/◌, ◌<◌, ◌≤◌, ◌≡◌, refl, sym, ap, ◌∙◌, subst, arith, rules, length}
+use Rattle.words.specs.Prelude.{ℕ, ◌+◌, ◌-◌, ◌*◌, ◌/◌, ◌<◌, ◌≤◌, ◌≡◌, refl, sym, ap, ◌∙◌, subst, arith, length}
 use Rattle.questions.specs.{Over.asked_rows, Over.place_words, Over.lines_over, Over.counts_over, Over.explanation_over, Laws.Places.lines_long}
 use Rattle.questions.specs.{Laws.Places.counts_long}
 use Rattle.questions.proofs.{Asking.place_fits, Asking.rows_held, Asking.rows_few, Asking.upto_there, Asking.lines_turn, Asking.counts_turn}
@@ -11,14 +11,6 @@ few R n i long p q l = (omega arith, omega arith)
 four : (n i : ℕ) → i < n / 4 → 4 * i ≤ n
 four n i l = omega arith
 
-pub slots-slots-requires : goal.slots-slots-requires
-unfolding asked_rows
-slots-slots-requires c = search rules
-
-pub row_count-requires : goal.row_count-requires
-unfolding asked_rows
-row_count-requires c = search rules
-
 pub overflow_sub-older : goal.overflow_sub-older
 unfolding asked_rows
 overflow_sub-older c =
@@ -27,7 +19,7 @@ overflow_sub-older c =
 
 pub loop-i-init : goal.loop-i-init
 unfolding lines_over counts_over
-loop-i-init c = (omega arith, refl, refl)
+loop-i-init c = (refl, refl)
 
 pub overflow_add-older : goal.overflow_add-older
 unfolding asked_rows
@@ -37,7 +29,7 @@ overflow_add-older c =
     c.row_count.ensures c.requires.1 in
     let long = rows_few c.args.t.now c.args.rows.now c.args.positions.now _ _ c.slots-slots.ensures
     c.row_count.ensures in
-    few _ _ c.loop-i.i _ long held c.loop-i-test.true in
+    few _ _ c.loop-i.i _ long held (omega arith) in
     let good = c.well_formed in omega (arith, near.0)
 
 pub overflow_add-older-in-loop-i : goal.overflow_add-older-in-loop-i
@@ -48,7 +40,7 @@ overflow_add-older-in-loop-i c =
     c.row_count.ensures c.requires.1 in
     let long = rows_few c.args.t.now c.args.rows.now c.args.positions.now _ _ c.slots-slots.ensures
     c.row_count.ensures in
-    few _ _ c.loop-i.i _ long held c.loop-i-test.true in
+    few _ _ c.loop-i.i _ long held (omega arith) in
     let good = c.well_formed in omega (arith, near.1)
 
 pub first_rows-upto-requires : goal.first_rows-upto-requires
@@ -57,47 +49,38 @@ first_rows-upto-requires c =
     let k = c.slots-slots.ensures in
     let r = c.row_count.ensures in
     upto_there c.args.t.now c.args.rows.now c.args.positions.now _ _ k r _ c.loop-i.i
-    (rows_held c.args.t.now c.args.rows.now c.args.positions.now _ _ k r c.requires.1) c.loop-i-test.true
+    (rows_held c.args.t.now c.args.rows.now c.args.positions.now _ _ k r c.requires.1) (omega arith)
 
 pub position_at-position-requires : goal.position_at-position-requires
 position_at-position-requires c =
-    four (length c.args.positions.now) c.loop-i.i c.loop-i-test.true
+    four (length c.args.positions.now) c.loop-i.i (omega arith)
 
 pub explain_row-requires : goal.explain_row-requires
 unfolding asked_rows
 explain_row-requires c =
     let l = c.loop-i in
-    let long : length c.args.lines.now ≡ length l.lines = sym (ap length l.invariant.1 ∙ lines_long _ _ _) in (
+    let long : length c.args.lines.now ≡ length l.lines = sym (ap length l.invariant.0 ∙ lines_long _ _ _) in (
       c.requires.0,
       subst (λ (n : ℕ). place_words * l.i + place_words ≤ n) long
-          (place_fits _ l.i _ c.requires.2 c.loop-i-test.true),
+          (place_fits _ l.i _ c.requires.2 (omega arith)),
     )
-
-pub overflow_add-i : goal.overflow_add-i
-unfolding asked_rows
-overflow_add-i c = omega (arith, c.loop-i-test.true)
-
-pub loop-i-smaller : goal.loop-i-smaller
-unfolding asked_rows
-loop-i-smaller c = omega (arith, c.loop-i-test.true)
 
 pub loop-i-preserved : goal.loop-i-preserved
 unfolding asked_rows
 loop-i-preserved c =
     let l = c.loop-i in
     let a = c.args in (
-      omega (arith, c.loop-i-test.true),
       lines_turn a.t.now a.rows.now a.positions.now _ _ c.slots-slots.ensures c.row_count.ensures a.tree l.i _ _
-          c.first_rows-upto.ensures c.position_at-position.ensures a.lines.now l.lines _ l.invariant.1 c.explain_row.ensures.lines_after,
+          c.first_rows-upto.ensures c.position_at-position.ensures a.lines.now l.lines _ l.invariant.0 c.explain_row.ensures.lines_after,
       counts_turn a.t.now a.rows.now a.positions.now _ _ c.slots-slots.ensures c.row_count.ensures a.tree l.i _ _
-          c.first_rows-upto.ensures c.position_at-position.ensures a.counts.now l.counts _ l.invariant.2 c.explain_row.ensures.counts_after,
+          c.first_rows-upto.ensures c.position_at-position.ensures a.counts.now l.counts _ l.invariant.1 c.explain_row.ensures.counts_after,
     )
 
 pub shape_of-lines : goal.shape_of-lines
-shape_of-lines c = ap length c.loop-i.invariant.1 ∙ lines_long _ _ _
+shape_of-lines c = ap length c.loop-i.invariant.0 ∙ lines_long _ _ _
 
 pub shape_of-counts : goal.shape_of-counts
-shape_of-counts c = ap length c.loop-i.invariant.2 ∙ counts_long _ _ _
+shape_of-counts c = ap length c.loop-i.invariant.1 ∙ counts_long _ _ _
 
 pub returns : goal.returns
 unfolding asked_rows
@@ -105,5 +88,5 @@ returns c =
     let a = c.args in
     let l = c.loop-i in
     let each = explanation_over a.t.now a.tree a.rows.now a.positions.now in
-    let end : l.i ≡ asked_rows a.positions.now = omega (arith, c.loop-i-test.false, l.invariant.0) in
-    record { lines_after = l.invariant.1 ∙ ap (λ (n : ℕ). lines_over each n a.lines.now) end; counts_after = l.invariant.2 ∙ ap (λ (n : ℕ). counts_over each n a.counts.now) end }
+    let end : l.i ≡ asked_rows a.positions.now = omega arith in
+    record { lines_after = l.invariant.0 ∙ ap (λ (n : ℕ). lines_over each n a.lines.now) end; counts_after = l.invariant.1 ∙ ap (λ (n : ℕ). counts_over each n a.counts.now) end }

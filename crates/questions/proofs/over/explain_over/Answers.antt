@@ -1,21 +1,9 @@
 -- The table's refusals first, then the lines for rooms and records; where all are fine, each place and count is written.
-use Rattle.words.specs.Prelude.{refl, sym, ◌∙◌, arith, rules}
+use Rattle.words.specs.Prelude.{refl, sym, ◌∙◌, arith}
 use Rattle.table.specs.{Bytes.Bytes}
 use Rattle.questions.specs.{Over.unless_refused, Laws.Known.known}
 use Rattle.questions.proofs.{Asking.table_refused, Asking.lines_judged, Asking.seen}
 use Rattle.questions.proofs.over.explain_over.Goals as goal
-
-pub check-checked-requires : goal.check-checked-requires
-unfolding unless_refused
-check-checked-requires c = search rules
-
-pub slots-slots-requires : goal.slots-slots-requires
-unfolding unless_refused
-slots-slots-requires c = search rules
-
-pub judge_over-verdict-requires : goal.judge_over-verdict-requires
-unfolding unless_refused
-judge_over-verdict-requires c = search rules
 
 pub explain_rows-requires : goal.explain_rows-requires
 unfolding Bytes

@@ -7,4 +7,4 @@ use Rattle.records.proofs.settings.settings_of.Goals as goal
 pub returns-then-words-lt-SETTING_WORDS : goal.returns-then-words-lt-SETTING_WORDS
 returns-then-words-lt-SETTING_WORDS c =
     let ws = c.args.words.now in
-    c.whole_settings.ensures ∙ rw c.put.ensures (settings_agree _ ws (padded_agree setting_words ws (omega (arith, c.if-words-lt-SETTING_WORDS.true))))
+    c.whole_settings.ensures ∙ rw c.padded.ensures (settings_agree _ ws (padded_agree setting_words ws (omega (arith, c.if-words-lt-SETTING_WORDS.true))))

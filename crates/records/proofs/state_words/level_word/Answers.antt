@@ -1,19 +1,6 @@
 -- The definition goes by the same cases.
-use Rattle.words.specs.Prelude.{rules}
 use Rattle.records.specs.{StateWords.level_word}
 use Rattle.records.proofs.state_words.level_word.Goals as goal
-
-pub word_of-requires : goal.word_of-requires
-unfolding level_word
-word_of-requires c = search rules
-
-pub word_of-requires-in-Stop : goal.word_of-requires-in-Stop
-unfolding level_word
-word_of-requires-in-Stop c = search rules
-
-pub word_of-requires-in-StopLimit : goal.word_of-requires-in-StopLimit
-unfolding level_word
-word_of-requires-in-StopLimit c = search rules
 
 pub returns-in-Market : goal.returns-in-Market
 unfolding level_word

@@ -1,11 +1,6 @@
 -- The definition goes by the same cases.
-use Rattle.words.specs.Prelude.{rules}
 use Rattle.records.specs.{StateWords.limit_word}
 use Rattle.records.proofs.state_words.limit_word.Goals as goal
-
-pub word_of-requires : goal.word_of-requires
-unfolding limit_word
-word_of-requires c = search rules
 
 pub returns-in-Market : goal.returns-in-Market
 unfolding limit_word

@@ -7,4 +7,4 @@ use Rattle.records.proofs.state_words.state_of.Goals as goal
 pub returns-then-words-lt-STATE_WORDS : goal.returns-then-words-lt-STATE_WORDS
 returns-then-words-lt-STATE_WORDS c =
     let ws = c.args.words.now in
-    c.whole_state.ensures ∙ rw c.put.ensures (state_agree _ ws (padded_agree state_words ws (omega (arith, c.if-words-lt-STATE_WORDS.true))))
+    c.whole_state.ensures ∙ rw c.padded.ensures (state_agree _ ws (padded_agree state_words ws (omega (arith, c.if-words-lt-STATE_WORDS.true))))

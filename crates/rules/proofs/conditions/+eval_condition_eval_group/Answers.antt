@@ -1,5 +1,5 @@
 use Rattle.rules.proofs.Groups.{group_end}
-use Rattle.words.specs.Prelude.{refl, sym, arith}
+use Rattle.words.specs.Prelude.{◌+◌, ◌-◌, ◌<◌, ◌≤◌, ◌≡◌, sym, arith}
 use Rattle.rules.specs.{Meaning.holds, Flat.grow_condition}
 use Rattle.rules.proofs.{Grown.no_condition, Grown.grown_condition, Groups.group-none, Groups.group_on, Groups.group_off, Groups.group_front}
 use Rattle.rules.proofs.conditions.+eval_condition_eval_group.Goals as goal
@@ -65,26 +65,29 @@ eval_condition-returns-in-NoCondition t c =
 pub eval_group-loop-m-init : goal.eval_group-loop-m-init
 unfolding holds grow_condition
 eval_group-loop-m-init t c =
-    refl
+    let all : c.args.n - 0 ≡ c.args.n = omega arith in
+    rw all
 
 pub eval_group-returns-then-eval_condition-all : goal.eval_group-returns-then-eval_condition-all
 unfolding holds grow_condition
 eval_group-returns-then-eval_condition-all t c =
-    rw (c.loop-m.invariant, group_front _ _ _ _ c.loop-m-test.true)
+    let l = c.loop-m in
+    let some : 0 < c.args.n - l.m = omega arith in
+    rw (l.invariant, group_front _ _ _ _ some)
     (sym (group_off _ _ _ _ _ _ _ c.eval_condition.ensures c.if-eval_condition-all.true))
-
-pub eval_group-loop-m-smaller : goal.eval_group-loop-m-smaller
-unfolding holds grow_condition
-eval_group-loop-m-smaller t c =
-    omega arith
 
 pub eval_group-loop-m-preserved : goal.eval_group-loop-m-preserved
 unfolding holds grow_condition
 eval_group-loop-m-preserved t c =
-    rw (c.loop-m.invariant, group_front _ _ _ _ c.loop-m-test.true)
+    let l = c.loop-m in
+    let some : 0 < c.args.n - l.m = omega arith in
+    let rest : c.args.n - (l.m + 1) ≡ c.args.n - l.m - 1 = omega arith in
+    rw (rest, l.invariant, group_front _ _ _ _ some)
     (rw c.end_in-at.ensures (group_on _ _ _ _ _ _ _ c.eval_condition.ensures c.if-eval_condition-all.false))
 
 pub eval_group-returns : goal.eval_group-returns
 unfolding holds grow_condition
 eval_group-returns t c =
-    rw (c.loop-m.invariant, group_end _ _ _ _ c.loop-m-test.false) (sym (group-none _ _ _ _))
+    let l = c.loop-m in
+    let over : c.args.n - l.m ≤ 0 = omega arith in
+    rw (l.invariant, group_end _ _ _ _ over) (sym (group-none _ _ _ _))

@@ -7,7 +7,7 @@ use Rattle.rules.proofs.operands.extreme_of_bar.Goals as goal
 pub returns-then-bar-before : goal.returns-then-bar-before
 returns-then-bar-before c =
     let a = c.args in
-    let early : a.bar < a.n - 1 = omega (arith, c.bars_before-before.ensures, c.if-bar-before.true) in
+    let early : a.bar < a.n - 1 = omega (arith, c.saturating_sub-before.ensures, c.if-bar-before.true) in
     sym (extreme_early (history_of a.slots a.rows.now) a.kind a.over a.n a.bar early)
 
 pub extreme_over-requires : goal.extreme_over-requires
@@ -17,7 +17,7 @@ pub returns : goal.returns
 returns c =
     let a = c.args in
     let h = history_of a.slots a.rows.now in
-    let before = c.bars_before-before.ensures in
+    let before = c.saturating_sub-before.ensures in
     let late : a.n - 1 ≤ a.bar = omega (arith, before, c.if-bar-before.false) in
     let bars : a.bar - (a.bar - (a.n - 1)) ≡ a.n - 1 = omega (arith, late) in
     rw (extreme_late h a.kind a.over a.n a.bar late, ← ap (extreme_over h a.kind a.over (a.bar - (a.n - 1))) bars, ← before)

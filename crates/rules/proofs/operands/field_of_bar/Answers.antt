@@ -1,5 +1,5 @@
 -- The row of a bar that is there lies within the list, so its place fits; the price is the word after the time. Assumes nothing.
-use Rattle.words.specs.Prelude.{rules, arith, lt-ltb}
+use Rattle.words.specs.Prelude.{arith, lt-ltb}
 use Rattle.rows.specs.{History.history_of, Laws.RowEnds.row_ends}
 use Rattle.rules.specs.{Values.price_of}
 use Rattle.rules.proofs.operands.field_of_bar.Goals as goal
@@ -11,10 +11,6 @@ overflow_add-slots c = omega (arith, let a = c.args in row_ends a.slots a.rows.n
 pub overflow_mul-bar : goal.overflow_mul-bar
 unfolding history_of price_of
 overflow_mul-bar c = omega (arith, let a = c.args in row_ends a.slots a.rows.now a.bar c.requires.0)
-
-pub field_at-requires : goal.field_at-requires
-unfolding history_of price_of
-field_at-requires c = search rules
 
 pub returns : goal.returns
 unfolding history_of price_of

@@ -12,27 +12,25 @@ loop-at-init c =
     let a = c.args in
     let there : a.oldest < (history_of a.slots a.rows.now).rows = omega (arith, c.requires.0, c.requires.1) in (
       le_refl a.oldest,
-      c.requires.0,
       ap (λ (x : Float). Number x) c.field_of_bar-best.ensures ∙ price_one (history_of a.slots a.rows.now) a.kind a.selector a.oldest there,
     )
 
 pub field_of_bar-requires : goal.field_of_bar-requires
-field_of_bar-requires c = (omega (arith, c.requires.1, c.loop-at-test.true), c.requires.2)
+field_of_bar-requires c = (omega (arith, c.requires.1), c.requires.2)
 
 pub loop-at-preserved : goal.loop-at-preserved
 loop-at-preserved c =
     let l = c.loop-at in
     let a = c.args in
-    let there : l.at + 1 < (history_of a.slots a.rows.now).rows = omega (arith, c.requires.1, c.loop-at-test.true) in (
+    let there : l.at + 1 < (history_of a.slots a.rows.now).rows = omega (arith, c.requires.1) in (
       omega (arith, l.invariant.0),
-      omega (arith, c.loop-at-test.true),
       ap (λ (x : Float). Number x) (c.took-best.ensures ∙ ap (took a.kind l.best) c.field_of_bar.ensures)
-          ∙ price_more (history_of a.slots a.rows.now) a.kind a.selector a.oldest l.best l.at l.invariant.0 there l.invariant.2,
+          ∙ price_more (history_of a.slots a.rows.now) a.kind a.selector a.oldest l.best l.at l.invariant.0 there l.invariant.1,
     )
 
 pub returns : goal.returns
 returns c =
     let l = c.loop-at in
     let a = c.args in
-    let last : l.at ≡ a.bar = omega (arith, c.loop-at-test.false, l.invariant.1) in
-    l.invariant.2 ∙ ap (λ (m : ℕ). extreme_over (history_of a.slots a.rows.now) a.kind (Price a.selector) a.oldest (m - a.oldest)) last
+    let last : l.at ≡ a.bar = omega arith in
+    l.invariant.1 ∙ ap (λ (m : ℕ). extreme_over (history_of a.slots a.rows.now) a.kind (Price a.selector) a.oldest (m - a.oldest)) last

@@ -6,7 +6,4 @@ use Rattle.rules.specs.{declared.values.Value.TheVariants.Number, Meaning.extrem
 use Rattle.rules.proofs.operands.field_over.Given as goal
 
 abbrev pub invariant-loop-at : goal.invariant-loop-at
-invariant-loop-at l = (l.oldest ≤ l.at) × (l.at ≤ l.bar) × (Number l.best ≡ extreme_over (history_of l.slots l.rows) l.kind (Price l.selector) l.oldest (l.at - l.oldest))
-
-abbrev pub decreases-loop-at : goal.decreases-loop-at
-decreases-loop-at l = l.bar - l.at
+invariant-loop-at l = (l.oldest ≤ l.at) × (Number l.best ≡ extreme_over (history_of l.slots l.rows) l.kind (Price l.selector) l.oldest (l.at - l.oldest))

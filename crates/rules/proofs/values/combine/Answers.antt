@@ -1,5 +1,5 @@
 -- Each return is what `combine` says where the tests that led there hold. Assumes nothing.
-use Rattle.words.specs.Prelude.{rules, eq-eqb, ne_eqb}
+use Rattle.words.specs.Prelude.{eq-eqb, ne_eqb}
 use Rattle.rules.specs.{Values.combine}
 use Rattle.rules.proofs.values.combine.Goals as goal
 
@@ -14,10 +14,6 @@ returns-then-kind-eq-SUB c = simp (ne_eqb _ _ c.if-kind-eq-ADD.false, eq-eqb _ _
 pub returns-then-kind-eq-MUL : goal.returns-then-kind-eq-MUL
 unfolding combine
 returns-then-kind-eq-MUL c = simp (ne_eqb _ _ c.if-kind-eq-ADD.false, ne_eqb _ _ c.if-kind-eq-SUB.false, eq-eqb _ _ c.if-kind-eq-MUL.true)
-
-pub divided-requires : goal.divided-requires
-unfolding combine
-divided-requires c = search rules
 
 pub returns : goal.returns
 unfolding combine

@@ -1,11 +1,6 @@
 -- One return for each case of the two values. Assumes nothing.
-use Rattle.words.specs.Prelude.{rules}
 use Rattle.rules.specs.{Values.combined}
 use Rattle.rules.proofs.values.combined.Goals as goal
-
-pub combine-requires : goal.combine-requires
-unfolding combined
-combine-requires c = search rules
 
 pub returns-in-Missing : goal.returns-in-Missing
 unfolding combined

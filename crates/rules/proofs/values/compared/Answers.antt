@@ -1,11 +1,6 @@
 -- One return for each case of the two values. Assumes nothing.
-use Rattle.words.specs.Prelude.{rules}
 use Rattle.rules.specs.{Values.compared}
 use Rattle.rules.proofs.values.compared.Goals as goal
-
-pub test-requires : goal.test-requires
-unfolding compared
-test-requires c = search rules
 
 pub returns-in-Missing : goal.returns-in-Missing
 unfolding compared

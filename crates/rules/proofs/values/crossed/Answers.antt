@@ -1,15 +1,7 @@
 -- Each return is what `crossed` says where the tests that led there hold. Assumes nothing.
-use Rattle.words.specs.Prelude.{rules, eq-eqb, ne_eqb}
+use Rattle.words.specs.Prelude.{eq-eqb, ne_eqb}
 use Rattle.rules.specs.{Values.crossed}
 use Rattle.rules.proofs.values.crossed.Goals as goal
-
-pub compared-requires : goal.compared-requires
-unfolding crossed
-compared-requires c = search rules
-
-pub compared-requires-then-compared : goal.compared-requires-then-compared
-unfolding crossed
-compared-requires-then-compared c = search rules
 
 pub returns-then-compared : goal.returns-then-compared
 unfolding crossed
@@ -19,14 +11,6 @@ returns-then-compared c =
 pub returns-then-kind-eq-CROSS_ABOVE : goal.returns-then-kind-eq-CROSS_ABOVE
 unfolding crossed
 returns-then-kind-eq-CROSS_ABOVE c = simp (eq-eqb _ _ c.if-kind-eq-CROSS_ABOVE.true, ← c.compared.ensures, c.if-compared.false)
-
-pub compared-requires-2 : goal.compared-requires-2
-unfolding crossed
-compared-requires-2 c = search rules
-
-pub compared-requires-then-compared-2 : goal.compared-requires-then-compared-2
-unfolding crossed
-compared-requires-then-compared-2 c = search rules
 
 pub returns-then-compared-2 : goal.returns-then-compared-2
 unfolding crossed

@@ -1,12 +1,7 @@
 -- The test on the divisor is the definition's. Assumes nothing.
-use Rattle.words.specs.Prelude.{rules}
 use Rattle.rules.specs.{Values.divide}
 use Rattle.rules.proofs.{Words.nan_is}
 use Rattle.rules.proofs.values.divided.Goals as goal
-
-pub abs-requires : goal.abs-requires
-unfolding divide
-abs-requires c = search rules
 
 pub returns-then-abs : goal.returns-then-abs
 unfolding divide

@@ -1,11 +1,6 @@
 -- One return for each case of the two values. Assumes nothing.
-use Rattle.words.specs.Prelude.{rules}
 use Rattle.rules.specs.{Values.pick}
 use Rattle.rules.proofs.values.pick.Goals as goal
-
-pub took-requires : goal.took-requires
-unfolding pick
-took-requires c = search rules
 
 pub returns-in-Missing : goal.returns-in-Missing
 unfolding pick

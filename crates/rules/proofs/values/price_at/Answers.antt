@@ -1,27 +1,11 @@
 -- Each return is what `price_of` says where the tests that led there hold. Assumes nothing.
-use Rattle.words.specs.Prelude.{rules, eq-eqb, ne_eqb, lt-ltb, le-ltb}
+use Rattle.words.specs.Prelude.{eq-eqb, ne_eqb, lt-ltb, le-ltb}
 use Rattle.rules.specs.{Values.price_of}
 use Rattle.rules.proofs.values.price_at.Goals as goal
-
-pub field_at-requires : goal.field_at-requires
-unfolding price_of
-field_at-requires c = search rules
 
 pub returns-then-selector-lt5 : goal.returns-then-selector-lt5
 unfolding price_of
 returns-then-selector-lt5 c = simp (lt-ltb _ _ c.if-selector-lt5.true) c.field_at.ensures
-
-pub field_at-high-requires : goal.field_at-high-requires
-unfolding price_of
-field_at-high-requires c = search rules
-
-pub field_at-low-requires : goal.field_at-low-requires
-unfolding price_of
-field_at-low-requires c = search rules
-
-pub field_at-close-requires : goal.field_at-close-requires
-unfolding price_of
-field_at-close-requires c = search rules
 
 pub returns-then-selector-eq5 : goal.returns-then-selector-eq5
 unfolding price_of
@@ -33,10 +17,6 @@ returns-then-selector-eq5 c =
       c.field_at-low.ensures,
       c.field_at-close.ensures,
     )
-
-pub field_at-open-requires : goal.field_at-open-requires
-unfolding price_of
-field_at-open-requires c = search rules
 
 pub returns : goal.returns
 unfolding price_of

@@ -1,5 +1,5 @@
 -- Each return is what `tested` says where the tests that led there hold. Assumes nothing.
-use Rattle.words.specs.Prelude.{◌≡◌, cond, eqb, rules, eq-eqb, ne_eqb}
+use Rattle.words.specs.Prelude.{◌≡◌, cond, eqb, eq-eqb, ne_eqb}
 use Rattle.floats.specs.{Floats.◌⊖◌, Floats.◌≺◌, Floats.◌≼◌, Floats.abs, Floats.eps}
 use Rattle.rules.specs.{Values.tested}
 use Rattle.table.specs.Named as Named
@@ -22,20 +22,12 @@ unfolding tested
 returns-then-kind-eq-LE c =
     simp (ne_eqb _ _ c.if-kind-eq-GT.false, ne_eqb _ _ c.if-kind-eq-LT.false, ne_eqb _ _ c.if-kind-eq-GE.false, eq-eqb _ _ c.if-kind-eq-LE.true)
 
-pub abs-requires : goal.abs-requires
-unfolding tested
-abs-requires c = search rules
-
 pub returns-then-kind-eq-EQ : goal.returns-then-kind-eq-EQ
 unfolding tested
 returns-then-kind-eq-EQ c =
     let past4 : let a = c.args in
     tested a.kind a.x a.y ≡ cond (eqb a.kind Named.eq) (abs (a.x ⊖ a.y) ≺ eps) (eps ≼ abs (a.x ⊖ a.y)) = simp (ne_eqb _ _ c.if-kind-eq-GT.false, ne_eqb _ _ c.if-kind-eq-LT.false, ne_eqb _ _ c.if-kind-eq-GE.false, ne_eqb _ _ c.if-kind-eq-LE.false) in
     rw (past4, eq-eqb _ _ c.if-kind-eq-EQ.true, c.abs.ensures)
-
-pub abs-requires-2 : goal.abs-requires-2
-unfolding tested
-abs-requires-2 c = search rules
 
 pub returns : goal.returns
 unfolding tested

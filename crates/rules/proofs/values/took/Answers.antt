@@ -1,11 +1,6 @@
 -- The later one where it is better. Assumes nothing.
-use Rattle.words.specs.Prelude.{rules}
 use Rattle.rules.specs.{Values.took}
 use Rattle.rules.proofs.values.took.Goals as goal
-
-pub better-requires : goal.better-requires
-unfolding took
-better-requires c = search rules
 
 pub returns-then-better : goal.returns-then-better
 unfolding took

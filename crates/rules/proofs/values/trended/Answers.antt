@@ -1,19 +1,11 @@
 -- The kind picks the comparison. Assumes nothing.
-use Rattle.words.specs.Prelude.{rules, eq-eqb, ne_eqb}
+use Rattle.words.specs.Prelude.{eq-eqb, ne_eqb}
 use Rattle.rules.specs.{Values.trended}
 use Rattle.rules.proofs.values.trended.Goals as goal
-
-pub compared-requires : goal.compared-requires
-unfolding trended
-compared-requires c = search rules
 
 pub returns-then-kind-eq-RISING : goal.returns-then-kind-eq-RISING
 unfolding trended
 returns-then-kind-eq-RISING c = simp (eq-eqb _ _ c.if-kind-eq-RISING.true) c.compared.ensures
-
-pub compared-requires-2 : goal.compared-requires-2
-unfolding trended
-compared-requires-2 c = search rules
 
 pub returns : goal.returns
 unfolding trended

@@ -1,11 +1,6 @@
 -- The tests are those of the definition.
-use Rattle.words.specs.Prelude.{rules}
 use Rattle.steps.specs.{Choice.exit_list}
 use Rattle.steps.proofs.choice.exit_list.Goals as goal
-
-pub in_position-requires : goal.in_position-requires
-unfolding exit_list
-in_position-requires c = search rules
 
 pub returns-then-qty : goal.returns-then-qty
 unfolding exit_list

@@ -1,11 +1,7 @@
 -- The test is that of the definition.
-use Rattle.words.specs.Prelude.{rules, lt-ltb, le-ltb, arith}
+use Rattle.words.specs.Prelude.{lt-ltb, le-ltb, arith}
 use Rattle.steps.specs.{Bytes.extreme_op}
 use Rattle.steps.proofs.decode.extreme_op.Goals as goal
-
-pub newest_back-back-requires : goal.newest_back-back-requires
-unfolding extreme_op
-newest_back-back-requires c = search rules
 
 pub returns-then-x-lt-HIGHEST_SLOT : goal.returns-then-x-lt-HIGHEST_SLOT
 unfolding extreme_op

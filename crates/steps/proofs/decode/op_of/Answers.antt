@@ -1,27 +1,15 @@
 -- The tests are those of the definition, in its order.
-use Rattle.words.specs.Prelude.{rules, le-ltb, lt-ltb}
+use Rattle.words.specs.Prelude.{le-ltb, lt-ltb}
 use Rattle.steps.specs.{Bytes.op_of}
 use Rattle.steps.proofs.decode.op_of.Goals as goal
-
-pub operand_op-requires : goal.operand_op-requires
-unfolding op_of
-operand_op-requires c = search rules
 
 pub returns-then-x-lt-FIRST_TEST : goal.returns-then-x-lt-FIRST_TEST
 unfolding op_of
 returns-then-x-lt-FIRST_TEST c = simp (c.operand_op.ensures, lt-ltb _ _ c.if-x-lt-FIRST_TEST.true)
 
-pub test_op-requires : goal.test_op-requires
-unfolding op_of
-test_op-requires c = search rules
-
 pub returns-then-x-lt-ALL : goal.returns-then-x-lt-ALL
 unfolding op_of
 returns-then-x-lt-ALL c = simp (c.test_op.ensures, lt-ltb _ _ c.if-x-lt-ALL.true, le-ltb _ _ c.if-x-lt-FIRST_TEST.false)
-
-pub answer_op-requires : goal.answer_op-requires
-unfolding op_of
-answer_op-requires c = search rules
 
 pub returns : goal.returns
 unfolding op_of

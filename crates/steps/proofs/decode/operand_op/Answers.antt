@@ -1,5 +1,5 @@
 -- The tests are those of the definition, in its order.
-use Rattle.words.specs.Prelude.{rules, sym, ◌∙◌, arith, eq-eqb, le-leb, lt-leb, le-ltb, lt-ltb, ne_eqb}
+use Rattle.words.specs.Prelude.{sym, ◌∙◌, arith, eq-eqb, le-leb, lt-leb, le-ltb, lt-ltb, ne_eqb}
 use Rattle.steps.specs.{Bytes.operand_op, Laws.Classes.operation_out}
 use Rattle.steps.proofs.decode.operand_op.Goals as goal
 
@@ -19,10 +19,6 @@ pub returns-then-x-lt-ADD : goal.returns-then-x-lt-ADD
 unfolding operand_op
 returns-then-x-lt-ADD c =
     simp (lt-ltb _ _ c.if-x-lt-ADD.true, ne_eqb _ _ c.if-x-eq-PRICE.false, ne_eqb _ _ c.if-x-eq-REF.false, ne_eqb _ _ c.if-x-eq-CONST.false)
-
-pub is_operation-requires : goal.is_operation-requires
-unfolding operand_op
-is_operation-requires c = search rules
 
 pub returns-then-is_operation : goal.returns-then-is_operation
 unfolding operand_op

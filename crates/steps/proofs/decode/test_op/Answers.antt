@@ -1,11 +1,7 @@
 -- The tests are those of the definition, in its order.
-use Rattle.words.specs.Prelude.{rules, eq-eqb, le-ltb, lt-ltb, ne_eqb, sym, ◌∙◌}
+use Rattle.words.specs.Prelude.{eq-eqb, le-ltb, lt-ltb, ne_eqb, sym, ◌∙◌}
 use Rattle.steps.specs.{Bytes.test_op}
 use Rattle.steps.proofs.decode.test_op.Goals as goal
-
-pub is_comparison-requires : goal.is_comparison-requires
-unfolding test_op
-is_comparison-requires c = search rules
 
 pub returns-then-is_comparison : goal.returns-then-is_comparison
 unfolding test_op

@@ -1,15 +1,7 @@
 -- Both bytes are below 256, so nothing wraps.
-use Rattle.words.specs.Prelude.{rules, arith}
+use Rattle.words.specs.Prelude.{arith}
 use Rattle.table.specs.{Bytes.u16}
 use Rattle.steps.proofs.decode.two_at.Goals as goal
-
-pub wide-requires : goal.wide-requires
-unfolding u16
-wide-requires c = search rules
-
-pub wide-requires-2 : goal.wide-requires-2
-unfolding u16
-wide-requires-2 c = search rules
 
 pub returns : goal.returns
 unfolding u16

@@ -1,5 +1,5 @@
 -- Kind by kind.
-use Rattle.words.specs.Prelude.{rules, ◌≤◌, arith}
+use Rattle.words.specs.Prelude.{◌≤◌, arith}
 use Rattle.steps.specs.{Machine.effect}
 use Rattle.rules.specs.{Meaning.holds}
 use Rattle.steps.proofs.{Said.says_answer, Said.says_turn, Said.says_in_position, Said.says_bars, Said.says_nothing_early, Said.says_nothing_late}
@@ -17,17 +17,9 @@ pub returns-then-x-eq-NOT : goal.returns-then-x-eq-NOT
 unfolding effect holds
 returns-then-x-eq-NOT c h a b c2 d = rw (says_turn c.args.x c.if-x-eq-NOT.true)
 
-pub position-requires : goal.position-requires
-unfolding effect holds
-position-requires c = search rules
-
 pub returns-then-x-eq-IN_POSITION : goal.returns-then-x-eq-IN_POSITION
 unfolding effect holds
 returns-then-x-eq-IN_POSITION c h a b c2 d = rw (says_in_position c.args.x c.if-x-eq-IN_POSITION.true, c.position.ensures)
-
-pub since_entry-requires : goal.since_entry-requires
-unfolding effect holds
-since_entry-requires c = search rules
 
 pub returns-then-x-eq-BARS_SINCE_ENTRY : goal.returns-then-x-eq-BARS_SINCE_ENTRY
 unfolding effect holds

@@ -1,11 +1,7 @@
 -- The test is that of the definition; where it fails, nothing is told.
-use Rattle.words.specs.Prelude.{rules, lt-ltb, sym, true≢false}
+use Rattle.words.specs.Prelude.{lt-ltb, sym, true≢false}
 use Rattle.rules.specs.{Values.price_of}
 use Rattle.steps.proofs.leaves.field_at_once.Goals as goal
-
-pub field_in-requires : goal.field_in-requires
-unfolding price_of
-field_in-requires c = search rules
 
 pub returns-then-selector-lt5 : goal.returns-then-selector-lt5
 unfolding price_of

@@ -1,11 +1,7 @@
 -- The test of the bit is that of the definition.
-use Rattle.words.specs.Prelude.{rules, eq-eqb, ne_eqb}
+use Rattle.words.specs.Prelude.{eq-eqb, ne_eqb}
 use Rattle.rules.specs.{Values.slot_of}
 use Rattle.steps.proofs.leaves.slot_in.Goals as goal
-
-pub field_in-requires : goal.field_in-requires
-unfolding slot_of
-field_in-requires c = search rules
 
 pub returns-then-mask-slot-eq1 : goal.returns-then-mask-slot-eq1
 unfolding slot_of

@@ -29,7 +29,7 @@ returns-then-held-back c = sym (ago_late _ _ _ _ (ring_held _ _ _ _ c.requires.0
 
 pub returns-then-newest-rest : goal.returns-then-newest-rest
 returns-then-newest-rest c =
-    sym (too_few _ _ _ _ _ _ (ring_held _ _ _ _ c.requires.0) c.if-held-back.false (rw c.before-rest.ensures at c.if-newest-rest.true))
+    sym (too_few _ _ _ _ _ _ (ring_held _ _ _ _ c.requires.0) c.if-held-back.false (rw c.saturating_sub-rest.ensures at c.if-newest-rest.true))
 
 pub extreme_over-requires : goal.extreme_over-requires
 extreme_over-requires c =
@@ -39,5 +39,5 @@ extreme_over-requires c =
 pub returns : goal.returns
 returns c =
     rw c.extreme_over.ensures
-    (sym (enough _ _ _ _ _ _ (ring_held _ _ _ _ c.requires.0) c.if-held-back.false (rw c.before-rest.ensures at c.if-newest-rest.false) _
-    c.before-rest.ensures))
+    (sym (enough _ _ _ _ _ _ (ring_held _ _ _ _ c.requires.0) c.if-held-back.false (rw c.saturating_sub-rest.ensures at c.if-newest-rest.false) _
+    c.saturating_sub-rest.ensures))

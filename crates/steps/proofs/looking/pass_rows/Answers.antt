@@ -6,7 +6,7 @@ use Rattle.steps.proofs.looking.pass_rows.Goals as goal
 use Rattle.steps.proofs.looking.pass_rows.Goals.{then-kind-eq-HIGHEST+else-best-x, else-kind-eq-HIGHEST+else-x-best}
 
 pub loop-k-init : goal.loop-k-init
-loop-k-init c = (omega arith, omega arith, λ i l. absurd (omega (arith, l)))
+loop-k-init c = (omega arith, λ i l. absurd (omega (arith, l)))
 
 pub series_in-found-requires : goal.series_in-found-requires
 series_in-found-requires c =
@@ -15,7 +15,7 @@ series_in-found-requires c =
     let more : (k + 1) * (7 + a.slots) ≤ a.count * (7 + a.slots) = mul-le-mul_right (7 + a.slots) (omega arith) in
     omega (arith, more, is, c.requires.slots_in_bounds) in
     let l = c.loop-k in
-    record { slots_in_bounds = room l.k l.at c.loop-k-test.true l.invariant.1; which_lt_slots = c.requires.which_lt_slots }
+    record { slots_in_bounds = room l.k l.at (omega arith) l.invariant.0; which_lt_slots = c.requires.which_lt_slots }
 
 pub returns-in-Missing : goal.returns-in-Missing
 returns-in-Missing c =
@@ -26,8 +26,8 @@ returns-in-Missing c =
     let l = c.loop-k in
     let stop = c.stopped_at.ensures in
     rw (stop.0, stop.1, stop.2) (
-      l.invariant.2,
-      stops l.k l.at _ c.loop-k-test.true l.invariant.1 c.series_in-found.ensures,
+      l.invariant.1,
+      stops l.k l.at _ (omega arith) l.invariant.0 c.series_in-found.ensures,
     )
 
 pub returns-then-best-x : goal.returns-then-best-x
@@ -39,8 +39,8 @@ returns-then-best-x c =
     let l = c.loop-k in
     let stop = c.stopped_at-then-best-x.ensures in
     rw (stop.0, stop.1, stop.2) (
-      l.invariant.2,
-      stops l.k l.at _ c.loop-k-test.true l.invariant.1
+      l.invariant.1,
+      stops l.k l.at _ (omega arith) l.invariant.0
           (sym c.in-Number.is ∙ c.series_in-found.ensures),
     )
 
@@ -53,8 +53,8 @@ returns-then-x-best c =
     let l = c.loop-k in
     let stop = c.stopped_at-then-x-best.ensures in
     rw (stop.0, stop.1, stop.2) (
-      l.invariant.2,
-      stops l.k l.at _ c.loop-k-test.true l.invariant.1
+      l.invariant.1,
+      stops l.k l.at _ (omega arith) l.invariant.0
           (sym c.in-Number.is ∙ c.series_in-found.ensures),
     )
 
@@ -65,7 +65,7 @@ overflow_add-at c =
     let more : (k + 1) * (7 + a.slots) ≤ a.count * (7 + a.slots) = mul-le-mul_right (7 + a.slots) (omega arith) in
     omega (arith, more, is, c.requires.slots_in_bounds) in
     let l = c.loop-k in
-    omega (arith, room l.k l.at c.loop-k-test.true l.invariant.1)
+    omega (arith, room l.k l.at (omega arith) l.invariant.0)
 
 pub overflow_add-at-in-Number : goal.overflow_add-at-in-Number
 overflow_add-at-in-Number c =
@@ -74,23 +74,16 @@ overflow_add-at-in-Number c =
     let more : (k + 1) * (7 + a.slots) ≤ a.count * (7 + a.slots) = mul-le-mul_right (7 + a.slots) (omega arith) in
     omega (arith, more, is, c.requires.slots_in_bounds) in
     let l = c.loop-k in
-    omega (arith, room l.k l.at c.loop-k-test.true l.invariant.1)
-
-pub overflow_add-k : goal.overflow_add-k
-overflow_add-k c = omega (arith, c.loop-k-test.true)
-
-pub loop-k-smaller : goal.loop-k-smaller
-loop-k-smaller c = omega (arith, c.loop-k-test.true)
+    omega (arith, room l.k l.at (omega arith) l.invariant.0)
 
 -- one row more
 pub loop-k-preserved : goal.loop-k-preserved
 loop-k-preserved c =
     let l = c.loop-k in
     let a = c.args in (
-      omega (arith, c.loop-k-test.true),
-      omega (arith, l.invariant.1),
-      passed_more a.kind (over_of a.slot a.which) a.rows.now a.slots a.base a.best l.k l.invariant.2
-          (rw (← l.invariant.1, ← c.series_in-found.ensures, c.in-Number.is)
+      omega (arith, l.invariant.0),
+      passed_more a.kind (over_of a.slot a.which) a.rows.now a.slots a.base a.best l.k l.invariant.1
+          (rw (← l.invariant.0, ← c.series_in-found.ensures, c.in-Number.is)
           (elim c.if-kind-eq-HIGHEST.branch [
             | then-kind-eq-HIGHEST+else-best-x w ↦ not_higher _ _ _ w.if-kind-eq-HIGHEST.true w.if-best-x.false
             | else-kind-eq-HIGHEST+else-x-best w ↦ not_lower _ _ _ w.if-kind-eq-HIGHEST.false w.if-x-best.false
@@ -98,4 +91,4 @@ loop-k-preserved c =
     )
 
 pub returns : goal.returns
-returns c = (λ i l. c.loop-k.invariant.2 i (omega (arith, l, c.loop-k-test.false)), refl)
+returns c = (λ i l. c.loop-k.invariant.1 i (omega (arith, l)), refl)

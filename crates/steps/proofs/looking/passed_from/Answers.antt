@@ -23,21 +23,21 @@ overflow_mul-base c =
 pub overflow_sub-newest : goal.overflow_sub-newest
 overflow_sub-newest c = omega (arith, c.requires.2)
 
-pub from_there-count-requires : goal.from_there-count-requires
-from_there-count-requires c =
+pub overflow_sub-held : goal.overflow_sub-held
+overflow_sub-held c =
     let row_within : c.place-row.result < c.args.held = rw c.place-row.ensures (place_within c.args.held c.args.first (c.args.at + 1) c.requires.1 (omega (arith, c.requires.2, c.requires.3))) in
-    row_within
+    omega (arith, row_within)
 
 pub pass-requires : goal.pass-requires
 pass-requires c =
     let row_within : c.place-row.result < c.args.held = rw c.place-row.ensures (place_within c.args.held c.args.first (c.args.at + 1) c.requires.1 (omega (arith, c.requires.2, c.requires.3))) in
     let a = c.args in
     let row = c.place-row.result in
-    let count = c.from_there-count.result in
-    let some : 1 ≤ count = omega (arith, row_within, c.from_there-count.ensures, c.requires.2) in (
+    let count = c.min-count.result in
+    let some : 1 ≤ count = omega (arith, row_within, c.min-count.ensures, c.requires.2) in (
       some,
       rows_end a.slots a.first a.rows.now a.held c.requires.0 c.requires.1 row count (count - 1) (omega (arith, some))
-          (omega (arith, some, row_within, c.from_there-count.ensures)),
+          (omega (arith, some, row_within, c.min-count.ensures)),
     )
 
 pub returns : goal.returns
@@ -47,8 +47,8 @@ returns c =
     let stop = c.pass.result in
     let over = over_of a.slot a.which in
     let base = c.place-row.result * (7 + a.slots) in
-    let count = c.from_there-count.result in
-    let most = c.from_there-count.ensures in
+    let count = c.min-count.result in
+    let most = c.min-count.ensures in
     let few = no_more over a.rows.now a.slots base count stop.passed stop.later stop.stopped c.pass.ensures.1 in (
       omega (arith, few, most, c.requires.2),
       λ oldest le so_far.

@@ -27,36 +27,36 @@ overflow_mul-base c =
 pub overflow_sub-newest : goal.overflow_sub-newest
 overflow_sub-newest c = omega (arith, c.requires.2)
 
-pub from_there-count-requires : goal.from_there-count-requires
-from_there-count-requires c =
+pub overflow_sub-held : goal.overflow_sub-held
+overflow_sub-held c =
     let row_within : c.place-row.result < c.args.held = rw c.place-row.ensures (place_within c.args.held c.args.first (c.args.at + 1) c.requires.1 (omega (arith, c.requires.2, c.requires.3))) in
-    row_within
+    omega (arith, row_within)
 
 pub quick_rows-quick-requires : goal.quick_rows-quick-requires
 quick_rows-quick-requires c =
     let row_within : c.place-row.result < c.args.held = rw c.place-row.ensures (place_within c.args.held c.args.first (c.args.at + 1) c.requires.1 (omega (arith, c.requires.2, c.requires.3))) in
     let a = c.args in
     let row = c.place-row.result in
-    let count = c.from_there-count.result in
-    let some : 1 ≤ count = omega (arith, row_within, c.from_there-count.ensures, c.requires.2) in
+    let count = c.min-count.result in
+    let some : 1 ≤ count = omega (arith, row_within, c.min-count.ensures, c.requires.2) in
     let ends : row * (7 + a.slots) + count * (7 + a.slots) ≤ length a.rows.now =
     rows_end a.slots a.first a.rows.now a.held c.requires.0 c.requires.1 row count (count - 1) (omega (arith, some))
-    (omega (arith, some, row_within, c.from_there-count.ensures)) in
+    (omega (arith, some, row_within, c.min-count.ensures)) in
     (ends, c.in_row.ensures c.if-in_row.true, c.if-word-lt-INFINITY.true)
 
 pub overflow_sub-result : goal.overflow_sub-result
 overflow_sub-result c = omega (arith, c.quick_rows-quick.ensures.0)
 
 pub overflow_add-result : goal.overflow_add-result
-overflow_add-result c = omega (arith, c.quick_rows-quick.ensures.0, c.from_there-count.ensures)
+overflow_add-result c = omega (arith, c.quick_rows-quick.ensures.0, c.min-count.ensures)
 
 pub returns-then-word-lt-INFINITY : goal.returns-then-word-lt-INFINITY
 returns-then-word-lt-INFINITY c =
     let row_within : c.place-row.result < c.args.held = rw c.place-row.ensures (place_within c.args.held c.args.first (c.args.at + 1) c.requires.1 (omega (arith, c.requires.2, c.requires.3))) in
     let a = c.args in
     let over = over_of a.slot a.which in
-    let count = c.from_there-count.result in
-    let most = c.from_there-count.ensures in
+    let count = c.min-count.result in
+    let most = c.min-count.ensures in
     let m = count - c.quick_rows-quick.result.left in
     let back : float_of c.word_of-word.result ≡ a.best =
     ap float_of c.word_of-word.ensures ∙ of_bits-to_bits binary64 a.best (subst T (sym c.well_formed.1.1.1.1.1.1.1.0.1) tt) in (

@@ -1,16 +1,8 @@
 -- Over a price, or over a slot.
-use Rattle.words.specs.Prelude.{rules, arith}
+use Rattle.words.specs.Prelude.{arith}
 use Rattle.steps.specs.{Machine.effect}
 use Rattle.steps.proofs.{Said.says_over_price, Said.says_over_slot}
 use Rattle.steps.proofs.machine.look.Goals as goal
-
-pub newest_back-back-requires : goal.newest_back-back-requires
-unfolding effect
-newest_back-back-requires c = search rules
-
-pub extreme_ago-requires : goal.extreme_ago-requires
-unfolding effect
-extreme_ago-requires c = search rules
 
 pub returns-then-x-lt-HIGHEST_SLOT : goal.returns-then-x-lt-HIGHEST_SLOT
 unfolding effect
@@ -20,10 +12,6 @@ returns-then-x-lt-HIGHEST_SLOT c s a b c2 d y =
 pub overflow_sub-x : goal.overflow_sub-x
 unfolding effect
 overflow_sub-x c = omega (arith, c.if-x-lt-HIGHEST_SLOT.false)
-
-pub extreme_ago-requires-2 : goal.extreme_ago-requires-2
-unfolding effect
-extreme_ago-requires-2 c = search rules
 
 pub returns : goal.returns
 unfolding effect

@@ -1,13 +1,9 @@
-use Rattle.words.specs.Prelude.{rules, sym, ◌∙◌, arith}
+use Rattle.words.specs.Prelude.{sym, ◌∙◌, arith}
 use Rattle.steps.specs.{Places.Tries, Laws.Classes.range_in, Laws.Classes.range_out}
 use Rattle.steps.proofs.{Said.does_compare, Said.does_test, Said.does_jump, Said.does_arith, Coming.came_end, Going.fresh_long}
 use Rattle.steps.proofs.{Going.going_start, Going.going_leaf, Going.going_give, Going.going_look, Going.going_say, Going.going_set, Going.going_pass}
 use Rattle.steps.proofs.{Going.going_stay}
 use Rattle.steps.proofs.machine.run_with.Goals as goal
-
-pub row_count-held-requires : goal.row_count-held-requires
-unfolding Tries
-row_count-held-requires c = search rules
 
 pub newest_row-newest-requires : goal.newest_row-newest-requires
 unfolding Tries
@@ -16,10 +12,6 @@ newest_row-newest-requires c = let held = c.row_count-held.ensures in (held, rw 
 pub loop-p-init : goal.loop-p-init
 unfolding Tries
 loop-p-init c = going_start _ _ _ _ _ _ _ _ _ _ c.requires.fresh c.requires.le_places.4
-
-pub step_at-x-requires : goal.step_at-x-requires
-unfolding Tries
-step_at-x-requires c = search rules
 
 pub overflow_add-visits : goal.overflow_add-visits
 unfolding Tries
@@ -30,10 +22,6 @@ overflow_add-visits c =
       c.loop-p.invariant.came.seen,
       c.requires.le_places.3,
     )
-
-pub is_among-requires : goal.is_among-requires
-unfolding Tries
-is_among-requires c = search rules
 
 pub shape_of-numbers-then-top-places : goal.shape_of-numbers-then-top-places
 unfolding Tries
@@ -57,10 +45,6 @@ leaf-requires c =
     let held = c.row_count-held.ensures in
     let kind = range_in _ _ _ (sym c.is_among.ensures ∙ c.if-is_among.true) in
     record { held_value = (held, rw held c.requires.le_places.2); newest_value = c.newest_row-newest.ensures; le_kind = kind }
-
-pub put-requires : goal.put-requires
-unfolding Tries
-put-requires c = search rules
 
 pub overflow_add-top-then-is_among : goal.overflow_add-top-then-is_among
 unfolding Tries
@@ -86,37 +70,13 @@ pub overflow_cast-kind : goal.overflow_cast-kind
 unfolding Tries
 overflow_cast-kind c = omega arith
 
-pub is_test-requires : goal.is_test-requires
-unfolding Tries
-is_test-requires c = search rules
-
-pub is_comparison-requires : goal.is_comparison-requires
-unfolding Tries
-is_comparison-requires c = search rules
-
 pub overflow_add-top-then-is_comparison : goal.overflow_add-top-then-is_comparison
 unfolding Tries
 overflow_add-top-then-is_comparison c = omega arith
 
-pub at-a-requires : goal.at-a-requires
-unfolding Tries
-at-a-requires c = search rules
-
 pub overflow_add-top-then-is_comparison-2 : goal.overflow_add-top-then-is_comparison-2
 unfolding Tries
 overflow_add-top-then-is_comparison-2 c = omega arith
-
-pub at-b-requires : goal.at-b-requires
-unfolding Tries
-at-b-requires c = search rules
-
-pub compared-answer-requires : goal.compared-answer-requires
-unfolding Tries
-compared-answer-requires c = search rules
-
-pub left-top-requires : goal.left-top-requires
-unfolding Tries
-left-top-requires c = search rules
 
 pub overflow_add-p-then-is_comparison : goal.overflow_add-p-then-is_comparison
 overflow_add-p-then-is_comparison c =
@@ -129,21 +89,9 @@ loop-p-smaller-then-is_comparison c = omega arith
 -- a comparison
 pub loop-p-preserved-then-is_comparison : goal.loop-p-preserved-then-is_comparison
 loop-p-preserved-then-is_comparison c =
-    rw (c.left-top.ensures, c.compared-answer.ensures, c.at-b.ensures, c.at-a.ensures)
+    rw (c.saturating_sub-top.ensures, c.compared-answer.ensures, c.at-b.ensures, c.at-a.ensures)
     (going_say _ _ _ _ _ _ _ _ _ _ _ c.loop-p.invariant c.loop-p-test.true 2 _
     (rw (← c.step_at-x.ensures.0) (does_compare _ _ _ _ _ _ _ _ (sym c.is_comparison.ensures ∙ c.if-is_comparison.true))))
-
-pub tested-answer-requires : goal.tested-answer-requires
-unfolding Tries
-tested-answer-requires c = search rules
-
-pub taken-requires : goal.taken-requires
-unfolding Tries
-taken-requires c = search rules
-
-pub left-top-requires-else-is_comparison : goal.left-top-requires-else-is_comparison
-unfolding Tries
-left-top-requires-else-is_comparison c = search rules
 
 pub overflow_add-p-else-is_comparison : goal.overflow_add-p-else-is_comparison
 unfolding Tries
@@ -156,18 +104,10 @@ loop-p-smaller-else-is_comparison c = omega arith
 -- a cross or Between
 pub loop-p-preserved-else-is_comparison : goal.loop-p-preserved-else-is_comparison
 loop-p-preserved-else-is_comparison c =
-    rw (c.left-top-else-is_comparison.ensures, c.taken.ensures, c.tested-answer.ensures)
+    rw (c.saturating_sub-top-else-is_comparison.ensures, c.taken.ensures, c.tested-answer.ensures)
     (going_say _ _ _ _ _ _ _ _ _ _ _ c.loop-p.invariant c.loop-p-test.true _ _
     (rw (← c.step_at-x.ensures.0) (does_test _ _ _ _ _ _ _ _ (sym c.is_test.ensures ∙ c.if-is_test.true)
     (sym c.is_comparison.ensures ∙ c.if-is_comparison.false))))
-
-pub is_among-requires-else-is_test : goal.is_among-requires-else-is_test
-unfolding Tries
-is_among-requires-else-is_test c = search rules
-
-pub landing-p-requires : goal.landing-p-requires
-unfolding Tries
-landing-p-requires c = search rules
 
 pub loop-p-smaller-then-answer-kind : goal.loop-p-smaller-then-answer-kind
 unfolding Tries
@@ -196,46 +136,26 @@ loop-p-preserved-else-answer-kind c =
     going_stay _ _ _ _ _ _ _ _ _ _ _ c.loop-p.invariant c.loop-p-test.true
     (rw (← c.step_at-x.ensures.0) (does_jump _ _ _ _ _ _ _ _ kind.0 kind.1 ∙ rw c.if-answer-kind.false))
 
-pub is_operation-requires : goal.is_operation-requires
-unfolding Tries
-is_operation-requires c = search rules
-
 pub overflow_add-top-then-is_operation : goal.overflow_add-top-then-is_operation
 unfolding Tries
 overflow_add-top-then-is_operation c = omega arith
-
-pub at-a-requires-then-is_operation : goal.at-a-requires-then-is_operation
-unfolding Tries
-at-a-requires-then-is_operation c = search rules
 
 pub overflow_add-top-then-is_operation-2 : goal.overflow_add-top-then-is_operation-2
 overflow_add-top-then-is_operation-2 c =
     omega (arith, c.loop-p.invariant.tall, c.requires.le_places.1)
 
-pub at-b-requires-then-is_operation : goal.at-b-requires-then-is_operation
-unfolding Tries
-at-b-requires-then-is_operation c = search rules
-
-pub left-under-requires : goal.left-under-requires
-unfolding Tries
-left-under-requires c = search rules
-
 -- its result has a place: two are taken first, and there is at least one
 pub overflow_add-under : goal.overflow_add-under
 overflow_add-under c =
-    omega (arith, c.left-under.ensures, c.loop-p.invariant.tall, c.requires.le_places)
-
-pub combined-requires : goal.combined-requires
-unfolding Tries
-combined-requires c = search rules
+    omega (arith, c.saturating_sub-under.ensures, c.loop-p.invariant.tall, c.requires.le_places)
 
 pub put-requires-then-is_operation : goal.put-requires-then-is_operation
 put-requires-then-is_operation c =
-    let inv = c.loop-p.invariant in record { i_in_bounds = omega (arith, c.left-under.ensures, inv.tall, inv.room.numbers, c.requires.le_places); i_in_bounds_2 = omega (arith, c.left-under.ensures, inv.tall, inv.room.theres, c.requires.le_places) }
+    let inv = c.loop-p.invariant in record { i_in_bounds = omega (arith, c.saturating_sub-under.ensures, inv.tall, inv.room.numbers, c.requires.le_places); i_in_bounds_2 = omega (arith, c.saturating_sub-under.ensures, inv.tall, inv.room.theres, c.requires.le_places) }
 
 pub overflow_add-top-then-is_operation-3 : goal.overflow_add-top-then-is_operation-3
 overflow_add-top-then-is_operation-3 c =
-    omega (arith, c.left-under.ensures, c.loop-p.invariant.tall, c.requires.le_places)
+    omega (arith, c.saturating_sub-under.ensures, c.loop-p.invariant.tall, c.requires.le_places)
 
 -- a step further is within the list
 pub overflow_add-p-then-is_operation : goal.overflow_add-p-then-is_operation
@@ -254,21 +174,13 @@ loop-p-preserved-then-is_operation c =
       c.put-then-is_operation.ensures.numbers_after,
       c.put-then-is_operation.ensures.there_after,
       c.combined.ensures,
-      c.left-under.ensures,
+      c.saturating_sub-under.ensures,
       c.at-b-then-is_operation.ensures,
       c.at-a-then-is_operation.ensures,
     )
     (going_give _ _ _ _ _ _ _ _ _ _ _ c.loop-p.invariant c.loop-p-test.true 2 _
     (omega (arith, c.loop-p.invariant.tall, c.requires.le_places.0))
     (rw (← c.step_at-x.ensures.0) (does_arith _ _ _ _ _ _ _ _ kind)))
-
-pub is_among-requires-else-is_operation : goal.is_among-requires-else-is_operation
-unfolding Tries
-is_among-requires-else-is_operation c = search rules
-
-pub out_of_places-requires : goal.out_of_places-requires
-unfolding Tries
-out_of_places-requires c = search rules
 
 pub shape_of-numbers-then-top-places-2 : goal.shape_of-numbers-then-top-places-2
 unfolding Tries
@@ -289,16 +201,12 @@ returns-then-top-places-2 c =
       c.if-top-places-2.true,
     ))
 
-pub before-requires : goal.before-requires
-unfolding Tries
-before-requires c = search rules
-
 -- at most 65,536 visits for each step
 pub overflow_add-visits-then-is_among-3 : goal.overflow_add-visits-then-is_among-3
 overflow_add-visits-then-is_among-3 c =
     omega (
       arith,
-      c.before-then-is_among-3.ensures,
+      c.saturating_sub.ensures,
       c.step_at-x.ensures.1,
       c.loop-p-test.true,
       c.loop-p.invariant.came.seen,
@@ -336,7 +244,7 @@ loop-p-smaller-then-is_among-3 c =
 -- a look over rows
 pub loop-p-preserved-then-is_among-3 : goal.loop-p-preserved-then-is_among-3
 loop-p-preserved-then-is_among-3 c =
-    rw (c.put-then-is_among-3.ensures.numbers_after, c.put-then-is_among-3.ensures.there_after, c.before-then-is_among-3.ensures)
+    rw (c.put-then-is_among-3.ensures.numbers_after, c.put-then-is_among-3.ensures.there_after, c.saturating_sub.ensures)
     (going_look _ _ _ _ _ _ _ _ _ _ _ c.loop-p.invariant c.loop-p-test.true _ _ c.step_at-x.ensures.1
     (omega (arith, c.loop-p.invariant.tall, c.if-top-places-2.false))
     (rw (← c.step_at-x.ensures.0) (c.look-value.ensures _ _ _ _ _ _)))

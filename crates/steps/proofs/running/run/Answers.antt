@@ -1,5 +1,5 @@
 -- The refusals are those of the definition, in its order.
-use Rattle.words.specs.Prelude.{rules, lt-ltb, le-ltb}
+use Rattle.words.specs.Prelude.{lt-ltb, le-ltb}
 use Rattle.steps.specs.{Running.ran_if, Running.runs}
 use Rattle.steps.proofs.running.run.Goals as goal
 
@@ -15,22 +15,6 @@ pub returns-then-depth-gt-MOST_ROWS : goal.returns-then-depth-gt-MOST_ROWS
 unfolding ran_if runs
 returns-then-depth-gt-MOST_ROWS c =
     rw (le-ltb _ _ c.if-slots-gt-MOST_SLOTS.false, le-ltb _ _ c.if-depth-lt1.false, lt-ltb _ _ c.if-depth-gt-MOST_ROWS.true)
-
-pub are_whole-requires : goal.are_whole-requires
-unfolding ran_if runs
-are_whole-requires c = search rules
-
-pub state_right-requires : goal.state_right-requires
-unfolding ran_if runs
-state_right-requires c = search rules
-
-pub check-requires : goal.check-requires
-unfolding ran_if runs
-check-requires c = search rules
-
-pub run-requires : goal.run-requires
-unfolding ran_if runs
-run-requires c = search rules
 
 pub returns-in-Well : goal.returns-in-Well
 unfolding ran_if runs

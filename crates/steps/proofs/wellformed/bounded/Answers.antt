@@ -1,11 +1,7 @@
 -- Arm by arm.
-use Rattle.words.specs.Prelude.{rules, le-ltb, lt-ltb}
+use Rattle.words.specs.Prelude.{le-ltb, lt-ltb}
 use Rattle.steps.specs.{WellFormed.bounded}
 use Rattle.steps.proofs.wellformed.bounded.Goals as goal
-
-pub looks_within-requires : goal.looks_within-requires
-unfolding bounded
-looks_within-requires c = search rules
 
 pub returns-in-Const : goal.returns-in-Const
 unfolding bounded

@@ -7,7 +7,7 @@ use Rattle.steps.specs.declared.step.Op.TheVariants as Op
 use Rattle.translation.proofs.emit.put_extreme.Goals as goal
 
 pub overflow_add-oldest : goal.overflow_add-oldest
-overflow_add-oldest c = omega (arith, c.before-2.ensures, c.requires.0)
+overflow_add-oldest c = omega (arith, c.saturating_sub.ensures, c.requires.0)
 
 pub put_step-requires : goal.put_step-requires
 put_step-requires c = fits_one _ c.requires.1
@@ -20,11 +20,11 @@ unfolding step_of extreme_step
 returns-in-Price c =
     rw c.in-Price.is
     (wrote_one _ _ (Op.Extreme _ (Over.Price _) _ _) _ _ c.put_step.ensures.value
-    (rw c.before-2.ensures at c.put_step.ensures.room_after))
+    (rw c.saturating_sub.ensures at c.put_step.ensures.room_after))
 
 pub returns-in-Slot : goal.returns-in-Slot
 unfolding step_of extreme_step
 returns-in-Slot c =
     rw c.in-Slot.is
     (wrote_one _ _ (Op.Extreme _ (Over.Slot _) _ _) _ _ c.put_step-in-Slot.ensures.value
-    (rw (c.before-2.ensures, c.slot_kind.ensures) at c.put_step-in-Slot.ensures.room_after))
+    (rw (c.saturating_sub.ensures, c.slot_kind.ensures) at c.put_step-in-Slot.ensures.room_after))

@@ -1,0 +1,8 @@
+-- The loop's invariant: the best so far is that of the bars up to the one reached. Assumes nothing.
+use Rattle.words.specs.Prelude.{◌-◌, ◌≤◌, ◌≡◌}
+use Rattle.rows.specs.{History.history_of}
+use Rattle.rules.specs.{Meaning.extreme_over}
+use Rattle.rules.proofs.operands.series_over.Given as goal
+
+abbrev pub invariant-loop-at : goal.invariant-loop-at
+invariant-loop-at l = (l.oldest ≤ l.at) × (l.best ≡ extreme_over (history_of l.slots l.rows) l.kind l.over l.oldest (l.at - l.oldest))
