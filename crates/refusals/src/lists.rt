@@ -15,7 +15,7 @@ fn judge_list(slots: usize, depth: usize, steps: &[u8], list: u64) -> Verdict
     requires { list < 4 }
     ensures { result ≡ judged (list_line (formed slots depth steps.now) list ∷ []) }
 {
-    if steps.len() == 0 {
+    if steps.is_empty() {
         return Verdict::Fine;
     }
     let form = steps::wellformed::check(steps, slots as u64, depth as u64);
