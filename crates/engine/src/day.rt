@@ -105,8 +105,7 @@ fn take_bars<'a>(
     let count = bars.len() / width;
     let mut state = t;
     let mut start: usize = 0;
-    let mut done: usize = 0;
-    while done < count {
+    for done in 0..count {
         let from = done * width;
         let to = from + width;
         let went = next_bar(
@@ -137,13 +136,12 @@ fn take_bars<'a>(
             }
             Answer::Done(next) => {
                 state = next;
-                done += 1;
             }
         }
     }
     rows::ring::turn(rows, row, start);
     Day {
-        done,
+        done: count,
         verdict: Verdict::Fine,
         state,
     }
@@ -155,7 +153,7 @@ pub fn no_bars(span: Span, bars: &[u64]) -> bool
 {
     match span {
         Span::One => false,
-        Span::Many => bars.len() == 0,
+        Span::Many => bars.is_empty(),
     }
 }
 

@@ -20,7 +20,7 @@ use steps::{choice, machine};
 fn list_says(window: &[u64], slots: usize, start: usize, state: PositionState, list: &[u8]) -> bool
     ensures { result ≡ list_says (ring_of slots start window.now) state list.now }
 {
-    if list.len() == 0 {
+    if list.is_empty() {
         return false;
     }
     let ran = machine::run_ring(list, window, slots, start, state);
