@@ -43,10 +43,8 @@ fn read_words(image: &[u8], at: usize, room: &mut [u64], n: usize)
     requires { (n ≤ length room.old) × (at + 8 * n ≤ length image.now) }
     ensures { room.new ≡ words_at image.now at n ++ drop n room.old }
 {
-    let mut i: usize = 0;
-    while i < n {
+    for i in 0..n {
         room[i] = word_at(image, at + 8 * i);
-        i += 1;
     }
 }
 
