@@ -1,5 +1,5 @@
 -- All of them are past the words' end.
-use Rattle.words.specs.Prelude.{ℕ, ◌+◌, ◌-◌, ◌≤◌, ◌≡◌, refl, sym, ap, ◌∙◌, arith, length, take, drop, length-drop, length-take-le, List·get_or-eq_default}
+use Rattle.words.specs.Prelude.{ℕ, ◌+◌, ◌-◌, ◌≡◌, refl, sym, ap, ◌∙◌, arith, length, take, drop, length-drop, length-take-le, List·get_or-eq_default}
 use Rattle.std.proofs.lemmas.List.{get_or-replicate}
 use Rattle.std.proofs.lemmas.Slice.{put_mid-paste}
 use Rattle.std.proofs.Math.ListN.{replicate, length-replicate}

@@ -1,5 +1,5 @@
 -- The eight bytes over those of the area.
-use Rattle.words.specs.Prelude.{ℕ, ◌+◌, ◌-◌, ◌≡◌, refl, sym, ap, ◌∙◌, List, zero-add, add-zero, arith, get_or}
+use Rattle.words.specs.Prelude.{ℕ, refl, sym, ap, ◌∙◌, zero-add, arith, get_or}
 use Rattle.std.proofs.lemmas.Slice.{put_mid-paste}
 use Rattle.steps.specs.{Bytes.eight}
 use Rattle.dump.proofs.{Storing.laid_paste}
