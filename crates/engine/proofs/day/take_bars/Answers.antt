@@ -1,4 +1,4 @@
-use Rattle.words.specs.Prelude.{◌+◌, ◌∙◌, arith, length}
+use Rattle.words.specs.Prelude.{◌∙◌, arith, length}
 use Rattle.refusals.specs.{Laws.Fine.settings_fine}
 use Rattle.engine.proofs.{Days.begins, Days.bar_ends, Days.bar_long, Days.one_more, Days.stops, Days.all_done}
 use Rattle.engine.proofs.day.take_bars.Goals as goal

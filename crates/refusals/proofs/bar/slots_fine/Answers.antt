@@ -1,4 +1,4 @@
-use Rattle.words.specs.Prelude.{ℕ, ◌/◌, ◌≡◌, refl, sym, ap, ◌∙◌, div-one, arith, rules, get_or}
+use Rattle.words.specs.Prelude.{ℕ, ◌/◌, ◌≡◌, refl, sym, ap, ◌∙◌, div-one, arith, get_or}
 use Rattle.refusals.specs.{Bar.every, Bar.slot_fine, Bar.slots_fine, Laws.Every.every_more}
 use Rattle.refusals.proofs.{Bits.halved, Bits.all_fine, Bits.one_bad}
 use Rattle.refusals.proofs.bar.slots_fine.Goals as goal
