@@ -63,8 +63,7 @@ fn take_whole(slots: usize, seen: u64, bars: &[u64]) -> StreamTaken
 {
     let width = BAR_FIXED + slots;
     let count = bars.len() / width;
-    let mut done: usize = 0;
-    while done < count {
+    for done in 0..count {
         let from = done * width;
         let to = from + width;
         let verdict = judge_next(slots, seen + done as u64, &bars[from..to]);
@@ -74,10 +73,9 @@ fn take_whole(slots: usize, seen: u64, bars: &[u64]) -> StreamTaken
                 verdict: Verdict::Bad(refusal),
             };
         }
-        done += 1;
     }
     StreamTaken {
-        done,
+        done: count,
         verdict: Verdict::Fine,
     }
 }
@@ -86,7 +84,7 @@ fn take_whole(slots: usize, seen: u64, bars: &[u64]) -> StreamTaken
 pub fn take_bars(slots: usize, seen: u64, bars: &[u64]) -> StreamTaken
     ensures { result ≡ stream_taken slots seen bars.now }
 {
-    if bars.len() == 0 {
+    if bars.is_empty() {
         return StreamTaken {
             done: 0,
             verdict: Verdict::Fine,

@@ -10,6 +10,7 @@ use engine::answer::Finished;
 use records::settings::settings_of;
 use records::state_words::{put_state, state_of};
 use refusals::day::Span;
+use refusals::lists::Lists;
 use refusals::verdict::{Verdict, first_bad};
 use replies::{answer_word, judge_metrics};
 use stepping::day::call_bars;
@@ -45,10 +46,12 @@ pub extern "C" fn ysh_step<'a>(
         rows,
         equity,
         trades,
-        entry,
-        exit,
-        short_entry,
-        short_exit,
+        Lists {
+            entry,
+            exit,
+            short_entry,
+            short_exit,
+        },
         &mut done,
     )
 }

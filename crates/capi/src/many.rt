@@ -4,6 +4,7 @@ ghost use Rattle.records.specs.Lent.{rooms, lists};
 ghost use Rattle.stepping.specs.Day.{steps_call};
 
 use refusals::day::Span;
+use refusals::lists::Lists;
 use stepping::day::call_bars;
 
 // Many bars in one call: how many were done.
@@ -41,10 +42,12 @@ pub extern "C" fn ysh_steps<'a>(
         rows,
         equity,
         trades,
-        entry,
-        exit,
-        short_entry,
-        short_exit,
+        Lists {
+            entry,
+            exit,
+            short_entry,
+            short_exit,
+        },
         done,
     )
 }

@@ -12,6 +12,7 @@ use needed::depth::DepthAnswer;
 use records::settings::Settings;
 use records::state::State;
 use refusals::day::Span;
+use refusals::lists::Lists;
 use refusals::verdict::Verdict;
 use std::io;
 use std::io::{BufWriter, Write};
@@ -85,10 +86,12 @@ pub(crate) fn run_bars<'a>(
         rows,
         equity,
         trades,
-        entry,
-        exit,
-        none,
-        none,
+        Lists {
+            entry,
+            exit,
+            short_entry: none,
+            short_exit: none,
+        },
     );
     let verdict = day.verdict;
     match verdict {

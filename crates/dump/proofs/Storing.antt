@@ -1,21 +1,22 @@
 -- Stores, one after another, as bytes laid.
-use Rattle.words.specs.Prelude.{ℕ, ◌+◌, ◌-◌, ◌*◌, ◌≤◌, ◌≡◌, refl, sym, ap, ◌∙◌, List, zero-add, arith, get_or, set, drop, get_or-drop}
+use Rattle.words.specs.Prelude.{ℕ, zero, suc, ◌+◌, ◌-◌, ◌*◌, ◌<◌, ◌≤◌, ◌≡◌, refl, sym, ap, ◌∙◌, List, zero-add, add-one, arith, length, get_or, set, drop}
+use Rattle.words.specs.Prelude.{get_or-drop, paste}
+use Rattle.std.proofs.lemmas.List.Edits.{paste_none, paste_more}
 use Rattle.steps.specs.{Bytes.eight}
 use Rattle.images.specs.{Layout.words_bytes}
 use Rattle.dump.specs.{Laws.Laid.laid, Laws.Laid.laid_none, Laws.Laid.laid_more, Laws.Laid.laid_on, Laws.Laid.laid_as, Laws.InOrder.clip}
 use Rattle.dump.specs.{Laws.InOrder.part_laid, Laws.InOrder.whole_laid, Laws.WordBytes.word_byte}
 use native.Mathlib.Nat.{sub_self}
 
--- eight of them
-pub eight_sets : (area : List ℕ) (p : ℕ) (b : List ℕ)
-    → set (set (set (set (set (set (set (set area p (get_or b 0 0)) (p + 1) (get_or b 1 0)) (p + 2) (get_or b 2 0)) (p + 3) (get_or b 3 0))
-    (p + 4) (get_or b 4 0)) (p + 5) (get_or b 5 0)) (p + 6) (get_or b 6 0)) (p + 7) (get_or b 7 0)
-    ≡ laid area p b 0 8
+-- bytes that are those of a list, as a copy of them leaves the area
+pub laid_paste : (area : List ℕ) (base : ℕ) (xs s : List ℕ) (p n at : ℕ) → base + (p + n) ≤ length area → n ≤ length s → at ≡ base + p
+    → ((j : ℕ) → j < n → get_or xs (p + j) 0 ≡ get_or s j 0) → laid area base xs p n ≡ paste area at s n
 unfolding laid
-eight_sets area p b =
-    ap (λ (q : ℕ). set (set (set (set (set (set (set (set area q (get_or b 0 0)) (p + 1) (get_or b 1 0)) (p + 2) (get_or b 2 0)) (p + 3) (get_or b 3 0))
-    (p + 4) (get_or b 4 0)) (p + 5) (get_or b 5 0)) (p + 6) (get_or b 6 0)) (p + 7) (get_or b 7 0))
-    (omega arith)
+laid_paste area base xs s p zero at fits long e same = paste_none area at s
+laid_paste area base xs s p (suc n) at fits long e same =
+    let place : base + (p + n) ≡ at + n = omega arith in
+    rw (laid_paste area base xs s p n at (omega arith) (omega arith) e (λ j l. same j (omega arith)), same n (omega arith), place)
+    (rw add-one at (paste_more area at s n 0 (omega arith) (omega arith)))
 
 -- no byte yet
 pub laid_nothing : (area : List ℕ) (base : ℕ) (xs : List ℕ) (p : ℕ) → area ≡ laid area base xs p (p - p)

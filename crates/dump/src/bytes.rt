@@ -4,29 +4,11 @@ ghost use Rattle.steps.specs.Bytes.{eight};
 ghost use Rattle.images.specs.Layout.{words_bytes};
 ghost use Rattle.dump.specs.Laws.Laid.{laid};
 
-// The lowest byte of a number.
-fn low(n: u64) -> u8
-    ensures { result ≡ n % 256 }
-{
-    (n % 256) as u8
-}
-
 // The eight bytes of a word.
 fn bytes_of(w: u64) -> [u8; 8]
     ensures { result ≡ eight w }
 {
-    let a = w % 4294967296;
-    let b = w / 4294967296;
-    [
-        low(a),
-        low(a / 256),
-        low(a / 65536),
-        low(a / 16777216),
-        low(b),
-        low(b / 256),
-        low(b / 65536),
-        low(b / 16777216),
-    ]
+    w.to_le_bytes()
 }
 
 // Byte k of the words; 0 past their end.
@@ -42,15 +24,8 @@ fn put_word(area: &mut [u8], p: usize, w: u64)
     requires { p + 8 ≤ length area.old }
     ensures { area.new ≡ laid area.old p (eight w) 0 8 }
 {
-    let b = bytes_of(w);
-    area[p] = b[0];
-    area[p + 1] = b[1];
-    area[p + 2] = b[2];
-    area[p + 3] = b[3];
-    area[p + 4] = b[4];
-    area[p + 5] = b[5];
-    area[p + 6] = b[6];
-    area[p + 7] = b[7];
+    let bytes = bytes_of(w);
+    area[p..p + 8].copy_from_slice(&bytes);
 }
 
 // Bytes p to q of the words, one by one.
@@ -58,10 +33,8 @@ fn lay_bytes(area: &mut [u8], base: usize, list: &[u64], p: usize, q: usize)
     requires { base + q ≤ length area.old }
     ensures { area.new ≡ laid area.old base (words_bytes list.now) p (q - p) }
 {
-    let mut k = p;
-    while k < q {
+    for k in p..q {
         area[base + k] = byte_at(list, k);
-        k += 1;
     }
 }
 
@@ -82,6 +55,7 @@ fn lay_four(area: &mut [u8], base: usize, list: &[u64], k: usize)
 }
 
 // The bytes of words i on, eight words at a time, while there are so many before j; and how far that goes.
+// A `while`, as a range of blocks would have to work out from their number how far they went.
 fn lay_eights(area: &mut [u8], base: usize, list: &[u64], i: usize, j: usize) -> usize
     requires { (i ≤ j) × (j ≤ length list.now) × (base + 8 * j ≤ length area.old) }
     ensures { (i ≤ result) × (result ≤ j) × (area.new ≡ laid area.old base (words_bytes list.now) (8 * i) (8 * (result - i))) }
@@ -100,23 +74,18 @@ fn lay_known(area: &mut [u8], base: usize, list: &[u64], i: usize, j: usize)
     requires { (i ≤ j) × (j ≤ length list.now) × (base + 8 * j ≤ length area.old) }
     ensures { area.new ≡ laid area.old base (words_bytes list.now) (8 * i) (8 * (j - i)) }
 {
-    let mut k = lay_eights(area, base, list, i, j);
-    while k < j {
+    let first = lay_eights(area, base, list, i, j);
+    for k in first..j {
         put_word(area, base + 8 * k, list[k]);
-        k += 1;
     }
 }
 
 // Zero bytes p to q: those of words past the end.
 fn lay_zeros(area: &mut [u8], base: usize, list: &[u64], p: usize, q: usize)
-    requires { (8 * length list.now ≤ p) × (base + q ≤ length area.old) }
+    requires { (8 * length list.now ≤ p) × (p ≤ q) × (base + q ≤ length area.old) }
     ensures { area.new ≡ laid area.old base (words_bytes list.now) p (q - p) }
 {
-    let mut k = p;
-    while k < q {
-        area[base + k] = 0;
-        k += 1;
-    }
+    area[base + p..base + q].fill(0);
 }
 
 // The bytes of words i to j, those past the end zero.

@@ -52,10 +52,8 @@ fn copy_bytes(part: &mut [u8], to: usize, list: &[u64], p: usize, n: usize)
     requires { (to + n ≤ length part.old) × (p + n < 18446744073709551616) }
     ensures { part.new ≡ laid part.old to (drop p (words_bytes list.now)) 0 n }
 {
-    let mut k: usize = 0;
-    while k < n {
+    for k in 0..n {
         part[to + k] = byte_at(list, p + k);
-        k += 1;
     }
 }
 
@@ -86,10 +84,7 @@ fn lay_head(part: &mut [u8], head: &[u64], at: usize, n: usize)
 fn among_rows(at: usize) -> usize
     ensures { result ≡ at - 256 }
 {
-    if at < HEAD_BYTES {
-        return 0;
-    }
-    at - HEAD_BYTES
+    at.saturating_sub(HEAD_BYTES)
 }
 
 // And those of the rows, behind them.

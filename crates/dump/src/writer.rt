@@ -27,13 +27,7 @@ const REST_BYTES: usize = HEAD_BYTES - MARK_BYTES;
 pub(crate) fn clip(x: usize, start: usize, most: usize) -> usize
     ensures { result ≡ clip x start most }
 {
-    if x <= start {
-        return 0;
-    }
-    if most <= x - start {
-        return most;
-    }
-    x - start
+    x.saturating_sub(start).min(most)
 }
 
 // What lies between `from` and `upto` of a part of the order: `most` bytes that begin at `start`, and are those of the words from `skip` on.

@@ -54,7 +54,7 @@ fn kinds_pass(w: &[u64]) -> bool
         )
 }
 
-// Capital, sizing, taker fee, slippage, participation.
+// Capital, sizing, taker fee, slippage, participation. This and the levels stay two: handed an array of five places, one function would name none.
 fn costs_pass(w: &[u64]) -> bool
     requires { setting_words ≤ length w.now }
     ensures { result ≡ costs_pass w.now }

@@ -113,10 +113,10 @@ module _ (span : Span) (s : Settings) (ls : Lists) (t₀ : State) (m₀ : Rooms)
         after_refused s ls t₀ m₀ bars _ _ done more t room c.after (rw same_bar at went)
 
 pub all_done : (span : Span) (s : Settings) (ls : Lists) (t₀ : State) (m₀ : Rooms) (bars : List ℕ) (done start : ℕ) (t : State) (rows equity trades : List ℕ)
-    → Turn span s ls t₀ m₀ bars done start t rows equity trades → length bars / bar_words s.slots ≤ done
+    → Turn span s ls t₀ m₀ bars done start t rows equity trades → done ≡ length bars / bar_words s.slots
     → run_over s ls t₀ m₀ (in_records (length bars / bar_words s.slots) (bar_words s.slots) bars)
-    ≡ record { done = done; verdict = Fine; state = t; rooms = rooms (turned (width s.slots) start rows) equity trades }
-all_done span s ls t₀ m₀ bars done start t rows equity trades c h = after_all s ls t₀ m₀ bars _ _ done h c.after
+    ≡ record { done = length bars / bar_words s.slots; verdict = Fine; state = t; rooms = rooms (turned (width s.slots) start rows) equity trades }
+all_done span s ls t₀ m₀ bars done start t rows equity trades c h = let all = after_all s ls t₀ m₀ bars _ _ done (omega arith) c.after in cc
 
 -- ---- one bar
 

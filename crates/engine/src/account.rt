@@ -4,6 +4,7 @@ ghost use Rattle.std.specs.Prelude.{◌≡◌, ◌≤◌};
 ghost use Rattle.words.specs.Limits.{most_slots};
 ghost use Rattle.rows.specs.Ring.{ring_of};
 ghost use Rattle.execution.specs.Intrabar.{apply_intrabar_exits};
+ghost use Rattle.execution.specs.Level.{level_fill};
 ghost use Rattle.records.specs.Settings.{settings_of};
 ghost use Rattle.engine.specs.Record.{held_rows};
 ghost use Rattle.engine.specs.Account as Account;
@@ -163,9 +164,10 @@ fn wait(order: Order, p: Position) -> Filled
 }
 
 // An entry is due where the bar reaches it; the order works on where it does not.
-fn due_if_reached(side: Side, kind: OrderKind, order: Order, price: Optional) -> Due
-    ensures { result ≡ due_if_reached side kind order price }
+fn due_if_reached(side: Side, kind: OrderKind, order: Order, candle: Candle) -> Due
+    ensures { result ≡ due_if_reached side kind order (level_fill side kind candle) }
 {
+    let price = level::level_fill(side, kind, candle);
     match price {
         Optional::Absent => Due::Waits(order),
         Optional::Of(px) => Due::Enters(side, kind, px),
@@ -182,23 +184,13 @@ fn due_of(order: Order, candle: Candle) -> Due
             if 0 < n {
                 return Due::Waits(Order::EnterLong(n - 1, kind));
             }
-            due_if_reached(
-                Side::Long,
-                kind,
-                order,
-                level::level_fill(Side::Long, kind, candle),
-            )
+            due_if_reached(Side::Long, kind, order, candle)
         }
         Order::EnterShort(n, kind) => {
             if 0 < n {
                 return Due::Waits(Order::EnterShort(n - 1, kind));
             }
-            due_if_reached(
-                Side::Short,
-                kind,
-                order,
-                level::level_fill(Side::Short, kind, candle),
-            )
+            due_if_reached(Side::Short, kind, order, candle)
         }
         Order::Exit(n) => {
             if 0 < n {

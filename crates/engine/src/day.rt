@@ -1,7 +1,8 @@
 // A whole day in one call: bar after bar, until one is refused. What does not change from bar to bar is looked at once.
 ghost use Rattle.std.specs.Prelude.{◌≡◌, ◌/◌, ◌≤◌, length, take};
 ghost use Rattle.words.specs.Limits.{bar_words};
-ghost use Rattle.records.specs.Lent.{rooms, lists};
+ghost use Rattle.records.specs.Lent.{rooms};
+ghost use Rattle.refusals.specs.Lists.{lists_of};
 ghost use Rattle.records.specs.Settings.{settings_of};
 ghost use Rattle.refusals.specs.Day.{next_lines};
 ghost use Rattle.refusals.specs.Lines.{judged};
@@ -17,6 +18,7 @@ use crate::phases;
 use records::settings::Settings;
 use records::state::State;
 use refusals::day::Span;
+use refusals::lists::Lists;
 use refusals::verdict::Verdict;
 use words::limits::{BAR_FIXED, ROW_FIXED};
 use words::refusal::Refusal;
@@ -40,17 +42,14 @@ fn next_bar<'a>(
     start: usize,
     equity: &mut [u64],
     trades: &mut [u64],
-    entry: &[u8],
-    exit: &'a [u8],
-    short_entry: &[u8],
-    short_exit: &'a [u8],
+    trees: Lists<'a>,
 ) -> Advanced
     requires { (s ≡ settings_of settings.now) × (length bar.now ≡ bar_words s.slots) × RingAt span s t rows.old start × Underway s t
         (rooms (turned (width s.slots) start rows.old) equity.old trades.old)
-        (lists entry.now «exit».now short_entry.now short_exit.now) }
+        (lists_of trees) }
     ensures { Turns span s (step_answer s t bar.now
         (rooms (turned (width s.slots) start rows.old) equity.old trades.old)
-        (lists entry.now «exit».now short_entry.now short_exit.now))
+        (lists_of trees.entry))
         result rows.new equity.new trades.new }
 {
     let n = t.counts;
@@ -61,19 +60,7 @@ fn next_bar<'a>(
             start,
         },
         Verdict::Fine => phases::advance(
-            span,
-            s,
-            settings,
-            t,
-            bar,
-            rows,
-            start,
-            equity,
-            trades,
-            entry,
-            exit,
-            short_entry,
-            short_exit,
+            span, s, settings, t, bar, rows, start, equity, trades, trees,
         ),
     }
 }
@@ -88,14 +75,11 @@ fn take_bars<'a>(
     rows: &mut [u64],
     equity: &mut [u64],
     trades: &mut [u64],
-    entry: &[u8],
-    exit: &'a [u8],
-    short_entry: &[u8],
-    short_exit: &'a [u8],
+    trees: Lists<'a>,
 ) -> Day
     requires { (s ≡ settings_of settings.now)
-        × Underway s t (rooms rows.old equity.old trades.old) (lists entry.now «exit».now short_entry.now short_exit.now) }
-    ensures { run_over s (lists entry.now «exit».now short_entry.now short_exit.now) t
+        × Underway s t (rooms rows.old equity.old trades.old) (lists_of trees) }
+    ensures { run_over s (lists_of trees.entry) t
         (rooms rows.old equity.old trades.old)
         (in_records (length bars.now / bar_words s.slots) (bar_words s.slots) bars.now)
         ≡ run_with result (rooms rows.new equity.new trades.new) }
@@ -105,8 +89,7 @@ fn take_bars<'a>(
     let count = bars.len() / width;
     let mut state = t;
     let mut start: usize = 0;
-    let mut done: usize = 0;
-    while done < count {
+    for done in 0..count {
         let from = done * width;
         let to = from + width;
         let went = next_bar(
@@ -119,10 +102,7 @@ fn take_bars<'a>(
             start,
             equity,
             trades,
-            entry,
-            exit,
-            short_entry,
-            short_exit,
+            trees,
         );
         start = went.start;
         let answer = went.answer;
@@ -137,13 +117,12 @@ fn take_bars<'a>(
             }
             Answer::Done(next) => {
                 state = next;
-                done += 1;
             }
         }
     }
     rows::ring::turn(rows, row, start);
     Day {
-        done,
+        done: count,
         verdict: Verdict::Fine,
         state,
     }
@@ -155,7 +134,7 @@ pub fn no_bars(span: Span, bars: &[u64]) -> bool
 {
     match span {
         Span::One => false,
-        Span::Many => bars.len() == 0,
+        Span::Many => bars.is_empty(),
     }
 }
 
@@ -191,7 +170,8 @@ fn unlisted(
 }
 
 // Bars, one after another, until one is refused: one, or many. The settings are handed over as their words. Any settings, state, bars and rooms get an
-// answer; the bar that is refused changes nothing.
+// answer; the bar that is refused changes nothing. The rooms stay three parameters: a struct of `&mut` slices has to promise in every contract that it
+// still holds the same ones.
 pub fn run_bars<'a>(
     span: Span,
     settings: &[u64],
@@ -200,14 +180,11 @@ pub fn run_bars<'a>(
     rows: &mut [u64],
     equity: &mut [u64],
     trades: &mut [u64],
-    entry: &[u8],
-    exit: &'a [u8],
-    short_entry: &[u8],
-    short_exit: &'a [u8],
+    trees: Lists<'a>,
 ) -> Day
     ensures { day_of span (settings_of settings.now) t bars.now
         (rooms rows.old equity.old trades.old)
-        (lists entry.now «exit».now short_entry.now short_exit.now)
+        (lists_of trees.entry)
         ≡ run_with result (rooms rows.new equity.new trades.new) }
 {
     if no_bars(span, bars) {
@@ -227,28 +204,8 @@ pub fn run_bars<'a>(
             state: t,
         };
     }
-    if let Verdict::Bad(refusal) = refusals::lists::judge_lists(
-        s.slots,
-        s.depth,
-        entry,
-        exit,
-        short_entry,
-        short_exit,
-    ) {
+    if let Verdict::Bad(refusal) = refusals::lists::judge_lists(s.slots, s.depth, trees) {
         return unlisted(s, t, bars, equity, trades, refusal);
     }
-    take_bars(
-        span,
-        s,
-        settings,
-        t,
-        bars,
-        rows,
-        equity,
-        trades,
-        entry,
-        exit,
-        short_entry,
-        short_exit,
-    )
+    take_bars(span, s, settings, t, bars, rows, equity, trades, trees)
 }

@@ -2,7 +2,7 @@
 ghost use Rattle.std.specs.Prelude.{◌≡◌, ◌*◌, ◌<◌, ◌≤◌, length};
 ghost use Rattle.words.specs.Limits.{most_slots, most_count, row_words};
 ghost use Rattle.rows.specs.Ring.{ring_of};
-ghost use Rattle.records.specs.Lent.{lists};
+ghost use Rattle.refusals.specs.Lists.{lists_of};
 ghost use Rattle.engine.specs.Decide.{list_says, answers_of, ordered};
 ghost use Rattle.engine.specs.InPlace.{read_from, decided_from};
 ghost use Rattle.engine.specs.Record.{held_rows};
@@ -12,6 +12,7 @@ use execution::level::OrderKind;
 use portfolio::Portfolio;
 use records::settings::Settings;
 use records::state::{Order, Position};
+use refusals::lists::Lists;
 use rows::ring::Ring;
 use rules::position::PositionState;
 use steps::{choice, machine};
@@ -20,7 +21,7 @@ use steps::{choice, machine};
 fn list_says(window: &[u64], slots: usize, start: usize, state: PositionState, list: &[u8]) -> bool
     ensures { result ≡ list_says (ring_of slots start window.now) state list.now }
 {
-    if list.len() == 0 {
+    if list.is_empty() {
         return false;
     }
     let ran = machine::run_ring(list, window, slots, start, state);
@@ -54,25 +55,22 @@ fn order_of<'a>(
     slots: usize,
     start: usize,
     state: PositionState,
-    entry: &[u8],
-    exit: &'a [u8],
-    short_entry: &[u8],
-    short_exit: &'a [u8],
+    trees: Lists<'a>,
 ) -> Order
     ensures { result ≡ ordered delay kind account (answers_of (ring_of slots start window.now) state
-        (lists entry.now «exit».now short_entry.now short_exit.now)) }
+        (lists_of trees.entry)) }
 {
     if account.in_position() {
-        let list = choice::exit_list(account.qty, exit, short_exit);
+        let list = choice::exit_list(account.qty, trees.exit, trees.short_exit);
         if list_says(window, slots, start, state, list) {
             return Order::Exit(delay);
         }
         return Order::Idle;
     }
-    if list_says(window, slots, start, state, entry) {
+    if list_says(window, slots, start, state, trees.entry) {
         return Order::EnterLong(delay, kind);
     }
-    if list_says(window, slots, start, state, short_entry) {
+    if list_says(window, slots, start, state, trees.short_entry) {
         return Order::EnterShort(delay, kind);
     }
     Order::Idle
@@ -87,14 +85,11 @@ pub(crate) fn decide_next_action<'a>(
     close: f64,
     rows: &[u64],
     after: Ring,
-    entry: &[u8],
-    exit: &'a [u8],
-    short_entry: &[u8],
-    short_exit: &'a [u8],
+    trees: Lists<'a>,
 ) -> Order
     requires { (s.slots ≤ most_slots) × (number < most_count) × (after.held * row_words s.slots ≤ length rows.now) }
     ensures { result ≡ decided_from s order p number close after.start (held_rows s.slots after.held rows.now)
-        (lists entry.now «exit».now short_entry.now short_exit.now) }
+        (lists_of trees.entry) }
 {
     match order {
         Order::EnterLong(n, kind) => Order::EnterLong(n, kind),
@@ -123,10 +118,7 @@ pub(crate) fn decide_next_action<'a>(
                 slots,
                 after.start,
                 state,
-                entry,
-                exit,
-                short_entry,
-                short_exit,
+                trees,
             )
         }
     }

@@ -1,7 +1,8 @@
 // The phases of a bar.
 ghost use Rattle.std.specs.Prelude.{◌≡◌};
 ghost use Rattle.words.specs.Outcome.{refusal};
-ghost use Rattle.records.specs.Lent.{rooms, lists};
+ghost use Rattle.records.specs.Lent.{rooms};
+ghost use Rattle.refusals.specs.Lists.{lists_of};
 ghost use Rattle.records.specs.Settings.{settings_of};
 ghost use Rattle.rows.specs.History.{width};
 ghost use Rattle.rows.specs.Ring.{turned};
@@ -15,6 +16,7 @@ use portfolio::Candle;
 use records::settings::Settings;
 use records::state::{Counts, Last, Order, Position, State};
 use refusals::day::Span;
+use refusals::lists::Lists;
 use rows::ring::Ring;
 use words::refusal::Refusal;
 
@@ -63,16 +65,13 @@ pub(crate) fn advance<'a>(
     start: usize,
     equity: &mut [u64],
     trades: &mut [u64],
-    entry: &[u8],
-    exit: &'a [u8],
-    short_entry: &[u8],
-    short_exit: &'a [u8],
+    trees: Lists<'a>,
 ) -> Advanced
     requires { (s ≡ settings_of settings.now)
-        × Ready span s t bar.now rows.old start (lists entry.now «exit».now short_entry.now short_exit.now) }
+        × Ready span s t bar.now rows.old start (lists_of trees) }
     ensures { Turns span s (advanced s t bar.now
         (rooms (turned (width s.slots) start rows.old) equity.old trades.old)
-        (lists entry.now «exit».now short_entry.now short_exit.now))
+        (lists_of trees.entry))
         result rows.new equity.new trades.new }
 {
     let n = t.counts;
@@ -109,10 +108,7 @@ pub(crate) fn advance<'a>(
         candle.close,
         rows,
         after,
-        entry,
-        exit,
-        short_entry,
-        short_exit,
+        trees,
     );
     let seen = number + 1;
     let counts = Counts {

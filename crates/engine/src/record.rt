@@ -63,10 +63,8 @@ fn fill_row(row: &mut [u64], bar: &[u64], slots: usize)
     ensures { row.new ≡ row_of slots bar.now }
 {
     let width = words::limits::ROW_FIXED + slots;
-    let mut j: usize = 0;
-    while j < width {
+    for j in 0..width {
         row[j] = row_word(bar, j);
-        j += 1;
     }
 }
 

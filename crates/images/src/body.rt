@@ -65,10 +65,8 @@ fn slots_plain(image: &[u8], at: usize, slots: usize, mask: u64) -> bool
     ensures { result ≡ every slots (λ k. slot_plain mask k (u64 image.now (at + 8 * k))) }
 {
     let mut fine = true;
-    let mut k: usize = 0;
-    while k < slots {
+    for k in 0..slots {
         fine = fine & slot_plain(mask >> k, word_at(image, at + 8 * k));
-        k += 1;
     }
     fine
 }

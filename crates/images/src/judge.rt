@@ -82,12 +82,10 @@ fn zero_at(image: &[u8], at: usize, n: usize) -> bool
     requires { at + n < 18446744073709551616 }
     ensures { result ≡ zero_at image.now at n }
 {
-    let mut i: usize = 0;
-    while i < n {
+    for i in 0..n {
         if byte(image, at + i) != 0 {
             return false;
         }
-        i += 1;
     }
     true
 }
@@ -105,12 +103,10 @@ fn each_fine(image: &[u8], slots: usize, n: usize) -> bool
     requires { (slots ≤ most_slots) × (n ≤ most_rows) × (row_place slots n ≤ length image.now) }
     ensures { result ≡ each_fine image.now slots n }
 {
-    let mut i: usize = 0;
-    while i < n {
+    for i in 0..n {
         if !row_fine(image, slots, row_place(slots, i)) {
             return false;
         }
-        i += 1;
     }
     true
 }

@@ -19,23 +19,21 @@ pub enum Restored {
     Done(State),
 }
 
-// A byte as a number of 64 bits.
-fn wide(b: u8) -> u64
-    ensures { (result ≡ b) × (result < 256) }
-{
-    b as u64
-}
-
 // The word whose first byte is at `at`, with no test of its own: its eight bytes are loaded as one.
 pub(crate) fn word_at(image: &[u8], at: usize) -> u64
     requires { at + 8 ≤ length image.now }
     ensures { (result ≡ u64 image.now at) × (result < 18446744073709551616) }
 {
-    let a = wide(image[at]) + 256 * wide(image[at + 1]);
-    let b = wide(image[at + 2]) + 256 * wide(image[at + 2 + 1]);
-    let c = wide(image[at + 4]) + 256 * wide(image[at + 4 + 1]);
-    let d = wide(image[at + 4 + 2]) + 256 * wide(image[at + 4 + 2 + 1]);
-    a + 65536 * b + 4294967296 * (c + 65536 * d)
+    u64::from_le_bytes([
+        image[at],
+        image[at + 1],
+        image[at + 2],
+        image[at + 3],
+        image[at + 4],
+        image[at + 5],
+        image[at + 6],
+        image[at + 7],
+    ])
 }
 
 // Reads n words, the first at byte `at`, over the first words of a room.
@@ -43,10 +41,8 @@ fn read_words(image: &[u8], at: usize, room: &mut [u64], n: usize)
     requires { (n ≤ length room.old) × (at + 8 * n ≤ length image.now) }
     ensures { room.new ≡ words_at image.now at n ++ drop n room.old }
 {
-    let mut i: usize = 0;
-    while i < n {
+    for i in 0..n {
         room[i] = word_at(image, at + 8 * i);
-        i += 1;
     }
 }
 

@@ -3,8 +3,9 @@ use Rattle.std.specs.Prelude.{ℕ, ◌+◌, ◌*◌, Bool, true, false, List, []
 use Rattle.steps.specs.{declared.wellformed.Formed.Formed, declared.wellformed.Formed.TheVariants.Well, declared.wellformed.Formed.TheVariants.Bad}
 use Rattle.steps.specs.{WellFormed.formed}
 use Rattle.words.specs.{Limits.most_steps}
-use Rattle.records.specs.{Lent.Lists}
+use Rattle.records.specs.{Lent.Lists, Lent.lists}
 use Rattle.refusals.specs.{Lines.Line, Lines.line}
+use Rattle.refusals.specs.declared.lists.Lists as Trees
 
 abbrev pub is_well : Formed → Bool
 is_well Well = true
@@ -27,3 +28,7 @@ list_lines K D ls =
     ∷ list_line (formed K D ls.short_entry) 2
     ∷ list_line (formed K D ls.short_exit) 3
     ∷ []
+
+-- what the lists of a call hold
+abbrev pub lists_of : Trees.Lists → Lists
+lists_of trees = lists trees.entry.now trees.«exit».now trees.short_entry.now trees.short_exit.now

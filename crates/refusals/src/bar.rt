@@ -29,17 +29,14 @@ fn slots_fine(bar: &[u64], slots: usize) -> bool
     ensures { result ≡ slots_fine slots bar.now }
 {
     let mut left = words::word_from(bar, 0, words::places::BAR_MASK);
-    let mut k: usize = 0;
-    while k < words::limits::MOST_SLOTS {
+    for k in 0..words::limits::MOST_SLOTS {
         if left == 0 {
             return true;
         }
-        if slot_fine(bar, slots, left, k) {
-            left = left / 2;
-            k += 1;
-        } else {
+        if !slot_fine(bar, slots, left, k) {
             return false;
         }
+        left = left / 2;
     }
     true
 }

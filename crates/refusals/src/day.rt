@@ -1,8 +1,9 @@
 // A whole day in one call: what is looked at once for all of its bars, and what is looked at for each.
-ghost use Rattle.std.specs.Prelude.{◌≡◌};
+ghost use Rattle.std.specs.Prelude.{◌≡◌, ◌≤◌};
+ghost use Rattle.words.specs.Limits.{most_slots};
 ghost use Rattle.records.specs.Lent.{rooms};
 ghost use Rattle.refusals.specs.Lines.{judged};
-ghost use Rattle.refusals.specs.Day.{whole_bars, whole_for, day_lines, next_lines};
+ghost use Rattle.refusals.specs.Day.{whole_for, day_lines, next_lines};
 
 use crate::verdict::{Verdict, first_bad};
 use crate::{bar, rooms, setting};
@@ -18,24 +19,14 @@ pub enum Span {
     Many,
 }
 
-// Whether the words are whole bars. A bar of more slots than there are words is none, so the width never wraps.
-fn are_whole(bars: &[u64], slots: usize) -> bool
-    ensures { result ≡ whole_bars slots bars.now }
-{
-    let n = bars.len();
-    if n < slots {
-        return n == 0;
-    }
-    n % (BAR_FIXED + slots) == 0
-}
-
-// Whether they are what a call of one bar, or of many, is handed.
+// Whether the words are what a call of one bar, or of many, is handed: whole bars.
 fn are_for(span: Span, bars: &[u64], slots: usize) -> bool
+    requires { slots ≤ most_slots }
     ensures { result ≡ whole_for span slots bars.now }
 {
     match span {
         Span::One => records::bar::is_whole(bars, slots),
-        Span::Many => are_whole(bars, slots),
+        Span::Many => bars.len() % (BAR_FIXED + slots) == 0,
     }
 }
 

@@ -2,20 +2,28 @@
 ghost use Rattle.std.specs.Prelude.{◌≡◌, [], ◌∷◌, ◌<◌};
 ghost use Rattle.steps.specs.WellFormed.{formed};
 ghost use Rattle.refusals.specs.Lines.{judged};
-ghost use Rattle.records.specs.Lent.{lists};
-ghost use Rattle.refusals.specs.Lists.{list_line, list_lines};
+ghost use Rattle.refusals.specs.Lists.{list_line, list_lines, lists_of};
 
 use crate::verdict::Verdict;
 use steps::wellformed::Formed;
 use words::limits::MOST_STEPS;
 use words::refusal::Refusal;
 
+// The lists of a call, one of each tree.
+#[derive(Clone, Copy)]
+pub struct Lists<'a> {
+    pub entry: &'a [u8],
+    pub exit: &'a [u8],
+    pub short_entry: &'a [u8],
+    pub short_exit: &'a [u8],
+}
+
 // One list, numbered 0 to 3 in tree order. Most accounts have no short rules: an empty list is not looked through.
 fn judge_list(slots: usize, depth: usize, steps: &[u8], list: u64) -> Verdict
     requires { list < 4 }
     ensures { result ≡ judged (list_line (formed slots depth steps.now) list ∷ []) }
 {
-    if steps.len() == 0 {
+    if steps.is_empty() {
         return Verdict::Fine;
     }
     let form = steps::wellformed::check(steps, slots as u64, depth as u64);
@@ -32,25 +40,17 @@ fn judge_list(slots: usize, depth: usize, steps: &[u8], list: u64) -> Verdict
 }
 
 // 15, all four lists: the lowest comes first.
-pub fn judge_lists(
-    slots: usize,
-    depth: usize,
-    entry: &[u8],
-    exit: &[u8],
-    short_entry: &[u8],
-    short_exit: &[u8],
-) -> Verdict
-    ensures { result ≡ judged (list_lines slots depth
-        (lists entry.now «exit».now short_entry.now short_exit.now)) }
+pub fn judge_lists<'a>(slots: usize, depth: usize, trees: Lists<'a>) -> Verdict
+    ensures { result ≡ judged (list_lines slots depth (lists_of trees.entry)) }
 {
-    if let Verdict::Bad(refusal) = judge_list(slots, depth, entry, 0) {
+    if let Verdict::Bad(refusal) = judge_list(slots, depth, trees.entry, 0) {
         return Verdict::Bad(refusal);
     }
-    if let Verdict::Bad(refusal) = judge_list(slots, depth, exit, 1) {
+    if let Verdict::Bad(refusal) = judge_list(slots, depth, trees.exit, 1) {
         return Verdict::Bad(refusal);
     }
-    if let Verdict::Bad(refusal) = judge_list(slots, depth, short_entry, 2) {
+    if let Verdict::Bad(refusal) = judge_list(slots, depth, trees.short_entry, 2) {
         return Verdict::Bad(refusal);
     }
-    judge_list(slots, depth, short_exit, 3)
+    judge_list(slots, depth, trees.short_exit, 3)
 }

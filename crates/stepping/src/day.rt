@@ -1,7 +1,8 @@
 // Bars in one call: one, or many. Both go one way, so that what a bar does is compiled once, and into it.
 ghost use Rattle.std.specs.Prelude.{◌≡◌};
-ghost use Rattle.records.specs.Lent.{rooms, lists};
+ghost use Rattle.records.specs.Lent.{rooms};
 ghost use Rattle.refusals.specs.Lines.{judged};
+ghost use Rattle.refusals.specs.Lists.{lists_of};
 ghost use Rattle.replies.specs.Call.{word_lines};
 ghost use Rattle.stepping.specs.Day.{day_lent_lines, short_of, state_after, day_call};
 ghost use Rattle.stepping.specs.WordRun.{answer_of};
@@ -10,6 +11,7 @@ use records::settings::settings_of;
 use records::state::State;
 use records::state_words::{put_state, state_of};
 use refusals::day::Span;
+use refusals::lists::Lists;
 use refusals::verdict::Verdict;
 use replies::{answer_word, judge_words};
 
@@ -67,15 +69,12 @@ pub fn call_bars<'a>(
     rows: &mut [u64],
     equity: &mut [u64],
     trades: &mut [u64],
-    entry: &[u8],
-    exit: &'a [u8],
-    short_entry: &[u8],
-    short_exit: &'a [u8],
+    trees: Lists<'a>,
     done: &mut u64,
 ) -> u64
     ensures { day_call span settings.now state.entry.now bars.now
         (rooms rows.old equity.old trades.old)
-        (lists entry.now «exit».now short_entry.now short_exit.now)
+        (lists_of trees.entry)
         ≡ record {
           answer = result;
           lent = record {
@@ -97,10 +96,7 @@ pub fn call_bars<'a>(
         rows,
         equity,
         trades,
-        entry,
-        exit,
-        short_entry,
-        short_exit,
+        trees,
     );
     let last = day.state;
     let verdict = day.verdict;

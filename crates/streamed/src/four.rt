@@ -17,6 +17,7 @@ use accounts::status::{STATUS_WORDS, is_stopped, stop};
 use accounts::stream::take_bars;
 use records::settings::settings_of;
 use refusals::day::Span;
+use refusals::lists::Lists;
 use refusals::verdict::{Verdict, line};
 use replies::{HALF, answer_word};
 use stepping::day::{answer_of, call_bars};
@@ -85,10 +86,12 @@ fn step_own<'a>(
         rows,
         equity,
         trades,
-        entry,
-        exit,
-        &entry[..0],
-        &exit[..0],
+        Lists {
+            entry,
+            exit,
+            short_entry: &entry[..0],
+            short_exit: &exit[..0],
+        },
         &mut done,
     )
 }
@@ -119,8 +122,7 @@ fn ride<'a>(
 {
     let width = BAR_FIXED + stream;
     let mut own = [0u64; WIDEST_BAR];
-    let mut done: usize = 0;
-    while done < count {
+    for done in 0..count {
         let from = done * width;
         let to = from + width;
         let answer = step_own(
@@ -139,9 +141,11 @@ fn ride<'a>(
         if answer != 0 {
             return Ridden { done, answer };
         }
-        done += 1;
     }
-    Ridden { done, answer: 0 }
+    Ridden {
+        done: count,
+        answer: 0,
+    }
 }
 
 // An account over the bars that the stream took. One that is stopped is not touched.
@@ -204,7 +208,8 @@ fn count_bars(stream: &mut [u64], slots: usize, seen: u64, bars: &[u64], count: 
     words::put(stream, 1, &after);
 }
 
-// Four accounts over bars of one stream: how many bars it took.
+// Four accounts over bars of one stream: how many bars it took. The C interface lends the rooms of each as parameters of their own, so that the four are
+// called one by one.
 pub fn step_accounts(
     stream: &mut [u64],
     bars: &[u64],

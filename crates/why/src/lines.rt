@@ -20,9 +20,8 @@ const FIRST: usize = 4;
 
 const SECOND: usize = 5;
 
-const THIRD: usize = 6;
-
-const FOURTH: usize = 7;
+// How many values a line has a place for.
+const VALUES: usize = 4;
 
 // A refusal's number stands in the upper half of an answer, its place in the lower.
 const HALF: u64 = 4_294_967_296;
@@ -35,26 +34,16 @@ pub(crate) fn say_refused(output: &mut impl Write, answer: u64) -> io::Result<()
     say(output, "\n")
 }
 
-// A value after the first, where it is used.
-fn say_next(
-    output: &mut impl Write,
-    list: &[u64],
-    at: usize,
-    k: usize,
-    used: bool,
-) -> io::Result<()> {
-    if used {
-        say(output, ", ")?;
-        say_value(output, words::word_from(list, at, k))?;
-    }
-    Ok(())
-}
-
+// The first value, and those after it that are used.
 fn say_values(output: &mut impl Write, list: &[u64], at: usize, used: u64) -> io::Result<()> {
     say_value(output, words::word_from(list, at, FIRST))?;
-    say_next(output, list, at, SECOND, 1 < used)?;
-    say_next(output, list, at, THIRD, 2 < used)?;
-    say_next(output, list, at, FOURTH, 3 < used)
+    for k in 1..VALUES {
+        if (k as u64) < used {
+            say(output, ", ")?;
+            say_value(output, words::word_from(list, at, FIRST + k))?;
+        }
+    }
+    Ok(())
 }
 
 // How far back: this bar, or so many bars.
@@ -168,9 +157,5 @@ pub(crate) fn say_chain(
     } else {
         say(output, " said no\n")?;
     }
-    if 32 < count {
-        say_lines(output, t, list, 32)
-    } else {
-        say_lines(output, t, list, count)
-    }
+    say_lines(output, t, list, count.min(32))
 }

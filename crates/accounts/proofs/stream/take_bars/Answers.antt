@@ -1,11 +1,11 @@
 -- No bars, a stream that is not fine, or bar after bar.
-use Rattle.words.specs.Prelude.{sym, ◌∙◌, eq-eqb, ne_eqb, rules}
+use Rattle.words.specs.Prelude.{sym, ◌∙◌, rules}
 use Rattle.accounts.specs.{Stream.taken_unless, Stream.stream_taken}
 use Rattle.accounts.proofs.stream.take_bars.Goals as goal
 
-pub returns-then-bars-eq0 : goal.returns-then-bars-eq0
+pub returns-then-is_empty : goal.returns-then-is_empty
 unfolding stream_taken
-returns-then-bars-eq0 c = rw (eq-eqb _ _ c.if-bars-eq0.true)
+returns-then-is_empty c = rw (sym c.is_empty.ensures ∙ c.if-is_empty.true)
 
 pub judge_stream-requires : goal.judge_stream-requires
 unfolding stream_taken
@@ -15,7 +15,7 @@ pub returns-in-Bad : goal.returns-in-Bad
 unfolding stream_taken taken_unless
 returns-in-Bad c =
     rw (
-      ne_eqb _ _ c.if-bars-eq0.false,
+      sym c.is_empty.ensures ∙ c.if-is_empty.false,
       sym c.judge_stream.ensures ∙ c.in-Bad.is,
     )
 
@@ -27,6 +27,6 @@ pub returns : goal.returns
 unfolding stream_taken taken_unless
 returns c =
     rw (
-      ne_eqb _ _ c.if-bars-eq0.false,
+      sym c.is_empty.ensures ∙ c.if-is_empty.false,
       sym c.judge_stream.ensures ∙ c.in_default.is,
     ) c.take_whole.ensures

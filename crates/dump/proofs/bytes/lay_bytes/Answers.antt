@@ -6,20 +6,19 @@ use Rattle.dump.proofs.bytes.lay_bytes.Goals as goal
 pub loop-k-init : goal.loop-k-init
 loop-k-init c =
     let a = c.args in
-    (omega arith, laid_nothing a.area.now a.base (words_bytes a.list.now) a.p, refl, omega arith)
+    (laid_nothing a.area.now a.base (words_bytes a.list.now) a.p, refl, omega arith)
 
 pub loop-k-preserved : goal.loop-k-preserved
 loop-k-preserved c =
     let a = c.args in (
-      omega arith,
-      laid_next a.area.now a.base (words_bytes a.list.now) a.p c.loop-k.k c.byte_at.result c.loop-k.invariant.0
-          c.loop-k.invariant.1 c.byte_at.ensures,
-      simp length-set c.loop-k.invariant.2,
+      laid_next a.area.now a.base (words_bytes a.list.now) a.p c.loop-k.k c.byte_at.result (omega arith)
+          c.loop-k.invariant.0 c.byte_at.ensures,
+      simp length-set c.loop-k.invariant.1,
       omega arith,
     )
 
 pub returns : goal.returns
 returns c =
     let a = c.args in
-    laid_all a.area.now a.base (words_bytes a.list.now) a.p a.q c.loop-k.k c.loop-k-test.false c.loop-k.invariant.3 c.loop-k.invariant.0
-    c.loop-k.invariant.1
+    laid_all a.area.now a.base (words_bytes a.list.now) a.p a.q c.loop-k.k (omega arith) c.loop-k.invariant.2 (omega arith)
+    c.loop-k.invariant.0

@@ -5,7 +5,4 @@ use Rattle.dump.specs.{Laws.Laid.laid}
 use Rattle.dump.proofs.bytes.lay_bytes.Given as goal
 
 abbrev pub invariant-loop-k : goal.invariant-loop-k
-invariant-loop-k l = (l.p ≤ l.k) × (l.area ≡ laid l.initial.area l.base (words_bytes l.list) l.p (l.k - l.p)) × (length l.area ≡ length l.initial.area) × (l.k - l.q ≤ l.p - l.q)
-
-abbrev pub decreases-loop-k : goal.decreases-loop-k
-decreases-loop-k l = l.q - l.k
+invariant-loop-k l = (l.area ≡ laid l.initial.area l.base (words_bytes l.list) l.p (l.k - l.p)) × (length l.area ≡ length l.initial.area) × (l.k - l.q ≤ l.p - l.q)

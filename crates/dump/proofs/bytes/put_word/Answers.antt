@@ -1,34 +1,12 @@
--- Eight stores.
-use Rattle.words.specs.Prelude.{ap, ◌∙◌, List, ℕ, arith, length-set}
-use Rattle.dump.specs.{Laws.Laid.laid}
-use Rattle.dump.proofs.{Storing.eight_sets}
+-- The eight bytes over those of the area.
+use Rattle.words.specs.Prelude.{ℕ, refl, sym, ap, ◌∙◌, zero-add, arith, get_or}
+use Rattle.std.proofs.lemmas.Slice.{put_mid-paste}
+use Rattle.steps.specs.{Bytes.eight}
+use Rattle.dump.proofs.{Storing.laid_paste}
 use Rattle.dump.proofs.bytes.put_word.Goals as goal
-
-pub bounds-area-p-2 : goal.bounds-area-p-2
-bounds-area-p-2 c = simp length-set (omega arith)
-
-pub bounds-area-p-3 : goal.bounds-area-p-3
-bounds-area-p-3 c = simp length-set (omega arith)
-
-pub bounds-area-p-4 : goal.bounds-area-p-4
-bounds-area-p-4 c = simp length-set (omega arith)
-
-pub bounds-area-p-5 : goal.bounds-area-p-5
-bounds-area-p-5 c = simp length-set (omega arith)
-
-pub bounds-area-p-6 : goal.bounds-area-p-6
-bounds-area-p-6 c = simp length-set (omega arith)
-
-pub bounds-area-p-7 : goal.bounds-area-p-7
-bounds-area-p-7 c = simp length-set (omega arith)
-
-pub bounds-area-p-8 : goal.bounds-area-p-8
-bounds-area-p-8 c = simp length-set (omega arith)
-
-pub shape_of-area : goal.shape_of-area
-shape_of-area c = simp length-set
 
 pub returns : goal.returns
 returns c =
     let a = c.args in
-    eight_sets a.area.now a.p c.bytes_of-b.result ∙ ap (λ (l : List ℕ). laid a.area.now a.p l 0 8) c.bytes_of-b.ensures
+    put_mid-paste _ _ _ _ (eight a.w) 8 (c.copy_from_slice.ensures.after ∙ c.bytes_of-bytes.ensures) (omega arith) refl
+    ∙ sym (laid_paste a.area.now a.p (eight a.w) (eight a.w) 0 8 a.p (omega arith) (omega arith) (omega arith) (λ j l. ap (λ (k : ℕ). get_or (eight a.w) k 0) (zero-add j)))

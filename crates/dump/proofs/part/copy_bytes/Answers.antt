@@ -7,17 +7,16 @@ use Rattle.dump.proofs.part.copy_bytes.Goals as goal
 pub loop-k-init : goal.loop-k-init
 loop-k-init c =
     let a = c.args in
-    (omega arith, laid_none a.part.now a.to (drop a.p (words_bytes a.list.now)) 0, refl)
+    (laid_none a.part.now a.to (drop a.p (words_bytes a.list.now)) 0, refl)
 
 pub loop-k-preserved : goal.loop-k-preserved
 loop-k-preserved c =
     let a = c.args in (
-      omega arith,
-      copied_next a.part.now a.to (words_bytes a.list.now) a.p c.loop-k.k c.byte_at.result c.loop-k.invariant.1 c.byte_at.ensures,
-      simp length-set c.loop-k.invariant.2,
+      copied_next a.part.now a.to (words_bytes a.list.now) a.p c.loop-k.k c.byte_at.result c.loop-k.invariant.0 c.byte_at.ensures,
+      simp length-set c.loop-k.invariant.1,
     )
 
 pub returns : goal.returns
 returns c =
     let e : c.args.n ≡ c.loop-k.k = omega arith in
-    rw e c.loop-k.invariant.1
+    rw e c.loop-k.invariant.0

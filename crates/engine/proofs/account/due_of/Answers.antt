@@ -7,10 +7,6 @@ pub returns-then-n-gt0 : goal.returns-then-n-gt0
 unfolding due_of
 returns-then-n-gt0 c = simp (lt-ltb _ _ c.if-n-gt0.true, c.in-EnterLong.is)
 
-pub level_fill-requires : goal.level_fill-requires
-unfolding due_of
-level_fill-requires c = search rules
-
 pub due_if_reached-requires : goal.due_if_reached-requires
 unfolding due_of
 due_if_reached-requires c = search rules
@@ -18,10 +14,6 @@ due_if_reached-requires c = search rules
 pub returns-then-n-gt0-2 : goal.returns-then-n-gt0-2
 unfolding due_of
 returns-then-n-gt0-2 c = simp (lt-ltb _ _ c.if-n-gt0-2.true, c.in-EnterShort.is)
-
-pub level_fill-requires-in-EnterShort : goal.level_fill-requires-in-EnterShort
-unfolding due_of
-level_fill-requires-in-EnterShort c = search rules
 
 pub due_if_reached-requires-in-EnterShort : goal.due_if_reached-requires-in-EnterShort
 unfolding due_of
@@ -37,23 +29,11 @@ returns-in-Idle c = simp c.in-Idle.is
 
 pub returns-else-n-gt0 : goal.returns-else-n-gt0
 unfolding due_of
-returns-else-n-gt0 c =
-    simp (
-      c.due_if_reached.ensures,
-      c.level_fill.ensures,
-      le-ltb _ _ c.if-n-gt0.false,
-      c.in-EnterLong.is,
-    )
+returns-else-n-gt0 c = simp (c.due_if_reached.ensures, le-ltb _ _ c.if-n-gt0.false, c.in-EnterLong.is)
 
 pub returns-else-n-gt0-2 : goal.returns-else-n-gt0-2
 unfolding due_of
-returns-else-n-gt0-2 c =
-    simp (
-      c.due_if_reached-in-EnterShort.ensures,
-      c.level_fill-in-EnterShort.ensures,
-      le-ltb _ _ c.if-n-gt0-2.false,
-      c.in-EnterShort.is,
-    )
+returns-else-n-gt0-2 c = simp (c.due_if_reached-in-EnterShort.ensures, le-ltb _ _ c.if-n-gt0-2.false, c.in-EnterShort.is)
 
 pub returns-else-n-gt0-3 : goal.returns-else-n-gt0-3
 unfolding due_of

@@ -8,4 +8,4 @@ returns-in-One c = rw c.in-One.is
 
 pub returns-in-Many : goal.returns-in-Many
 unfolding no_bars
-returns-in-Many c = rw c.in-Many.is
+returns-in-Many c = rw c.in-Many.is c.is_empty.ensures

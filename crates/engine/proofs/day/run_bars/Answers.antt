@@ -1,8 +1,8 @@
 -- No bars; then what is looked at once; then the lists, before which the first bar comes; then bar after bar, and the room is turned.
 -- Assumes nothing.
 use Rattle.words.specs.Prelude.{sym, ◌∙◌}
-use Rattle.records.specs.{Lent.rooms, Lent.lists}
-use Rattle.refusals.specs.{Laws.Steady.day_fine}
+use Rattle.records.specs.{Lent.rooms}
+use Rattle.refusals.specs.{Lists.lists_of, Laws.Steady.day_fine}
 use Rattle.engine.specs.{Laws.Days.day_none, Laws.Days.day_whole, Laws.Days.whole_one, Laws.Days.day_stops, Laws.Days.day_unlisted}
 use Rattle.engine.proofs.day.run_bars.Goals as goal
 
@@ -10,7 +10,7 @@ pub returns-then-no_bars : goal.returns-then-no_bars
 returns-then-no_bars c =
     let a = c.args in
     day_none a.span _ a.t a.bars.now (rooms a.rows.now a.equity.now a.trades.now)
-    (lists a.entry.now a.exit.now a.short_entry.now a.short_exit.now) (sym c.no_bars.ensures ∙ c.if-no_bars.true)
+    (lists_of a.trees) (sym c.no_bars.ensures ∙ c.if-no_bars.true)
 
 pub returns-in-Bad : goal.returns-in-Bad
 returns-in-Bad c =
@@ -18,7 +18,7 @@ returns-in-Bad c =
     let a = c.args in
     let some = sym c.no_bars.ensures ∙ c.if-no_bars.false in
     rw (← c.settings_of-s.ensures) (day_stops a.span s a.t a.bars.now (rooms a.rows.now a.equity.now a.trades.now)
-    (lists a.entry.now a.exit.now a.short_entry.now a.short_exit.now) some
+    (lists_of a.trees) some
     _ (sym c.judge_day.ensures ∙ c.in-Bad.is))
 
 pub unlisted-requires : goal.unlisted-requires
@@ -39,7 +39,7 @@ returns-in-Bad-judge_lists c =
     (sym c.judge_day.ensures ∙ c.in_default.is) in
     rw (c.unlisted.ensures, ← c.settings_of-s.ensures)
     (day_unlisted a.span s a.t a.bars.now (rooms a.rows.now a.equity.now a.trades.now)
-    (lists a.entry.now a.exit.now a.short_entry.now a.short_exit.now) some
+    (lists_of a.trees) some
     _ once.0 once.1
     (sym c.judge_lists.ensures ∙ c.in-Bad-judge_lists.is))
 
@@ -61,5 +61,5 @@ returns c =
     (sym c.judge_day.ensures ∙ c.in_default.is) in
     rw (← c.settings_of-s.ensures)
     (day_whole a.span s a.t a.bars.now (rooms a.rows.now a.equity.now a.trades.now)
-    (lists a.entry.now a.exit.now a.short_entry.now a.short_exit.now) once.1
+    (lists_of a.trees) once.1
     ∙ c.take_bars.ensures)

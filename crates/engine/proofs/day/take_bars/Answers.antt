@@ -1,4 +1,4 @@
-use Rattle.words.specs.Prelude.{◌+◌, ◌∙◌, div-le_self, arith, length}
+use Rattle.words.specs.Prelude.{◌∙◌, arith, length}
 use Rattle.refusals.specs.{Laws.Fine.settings_fine}
 use Rattle.engine.proofs.{Days.begins, Days.bar_ends, Days.bar_long, Days.one_more, Days.stops, Days.all_done}
 use Rattle.engine.proofs.day.take_bars.Goals as goal
@@ -17,25 +17,25 @@ loop-done-init c = begins _ _ _ _ _ _ c.requires.1
 pub overflow_mul-from : goal.overflow_mul-from
 overflow_mul-from c =
     let good = c.well_formed in
-    omega (arith, bar_ends c.args.s.slots (length c.args.bars.now) c.loop-done.done c.loop-done-test.true)
+    omega (arith, bar_ends c.args.s.slots (length c.args.bars.now) c.loop-done.done (omega arith))
 
 pub overflow_add-to : goal.overflow_add-to
 overflow_add-to c =
     let good = c.well_formed in
-    omega (arith, bar_ends c.args.s.slots (length c.args.bars.now) c.loop-done.done c.loop-done-test.true)
+    omega (arith, bar_ends c.args.s.slots (length c.args.bars.now) c.loop-done.done (omega arith))
 
 pub offset_bounds-bars-from : goal.offset_bounds-bars-from
 offset_bounds-bars-from c =
     let good = c.well_formed in
-    omega (arith, bar_ends c.args.s.slots (length c.args.bars.now) c.loop-done.done c.loop-done-test.true)
+    omega (arith, bar_ends c.args.s.slots (length c.args.bars.now) c.loop-done.done (omega arith))
 
 pub slice_bounds-next_bar-end : goal.slice_bounds-next_bar-end
 slice_bounds-next_bar-end c =
-    omega (arith, bar_ends c.args.s.slots (length c.args.bars.now) c.loop-done.done c.loop-done-test.true)
+    omega (arith, bar_ends c.args.s.slots (length c.args.bars.now) c.loop-done.done (omega arith))
 
 pub next_bar-went-requires : goal.next_bar-went-requires
 next_bar-went-requires c =
-    let long = bar_long _ _ _ _ _ _ _ _ _ _ _ _ c.loop-done.invariant c.loop-done-test.true in
+    let long = bar_long _ _ _ _ _ _ _ _ _ _ _ _ c.loop-done.invariant (omega arith) in
     (c.requires.0, long, c.loop-done.invariant.at, c.loop-done.invariant.underway)
 
 -- the rooms are as long as they were, also after the bar that was refused
@@ -55,20 +55,12 @@ shape_of-trades-in-Refused c =
 pub returns-in-Refused : goal.returns-in-Refused
 returns-in-Refused c =
     rw c.turn.ensures
-    (stops _ _ _ _ _ _ _ _ _ _ _ _ c.loop-done.invariant c.loop-done-test.true c.next_bar-went.ensures
+    (stops _ _ _ _ _ _ _ _ _ _ _ _ c.loop-done.invariant (omega arith) c.next_bar-went.ensures
     c.in-Refused.is)
-
-pub overflow_add-done : goal.overflow_add-done
-overflow_add-done c =
-    let good = c.well_formed in
-    omega (arith, div-le_self (length c.args.bars.now) (10 + c.args.s.slots), c.loop-done-test.true)
-
-pub loop-done-smaller : goal.loop-done-smaller
-loop-done-smaller c = omega (arith, c.loop-done-test.true)
 
 pub loop-done-preserved : goal.loop-done-preserved
 loop-done-preserved c =
-    one_more _ _ _ _ _ _ _ _ _ _ _ _ c.loop-done.invariant c.loop-done-test.true c.next_bar-went.ensures c.in-Done.is
+    one_more _ _ _ _ _ _ _ _ _ _ _ _ c.loop-done.invariant (omega arith) c.next_bar-went.ensures c.in-Done.is
     c.next_bar-went.auto.rows c.next_bar-went.auto.equity c.next_bar-went.auto.trades
 
 -- all are done
@@ -83,4 +75,4 @@ shape_of-trades c = c.loop-done.invariant.lengths.trades
 
 pub returns : goal.returns
 returns c =
-    rw c.turn-2.ensures (all_done _ _ _ _ _ _ _ _ _ _ _ _ c.loop-done.invariant c.loop-done-test.false)
+    rw c.turn-2.ensures (all_done _ _ _ _ _ _ _ _ _ _ _ _ c.loop-done.invariant (omega arith))

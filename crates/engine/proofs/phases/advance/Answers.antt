@@ -2,7 +2,8 @@
 -- had they moved. Assumes nothing.
 use Rattle.words.specs.Prelude.{◌∙◌, arith}
 use Rattle.rows.specs.{History.width, Ring.turned}
-use Rattle.records.specs.{Lent.Rooms, Lent.Lists, Lent.rooms, Lent.lists}
+use Rattle.records.specs.{Lent.Rooms, Lent.Lists, Lent.rooms}
+use Rattle.refusals.specs.{Lists.lists_of}
 use Rattle.engine.specs.{Laws.InPlace.fill_in_place, Laws.InPlace.decide_in_place, Laws.InPlace.placed}
 use Rattle.engine.proofs.{OneBar.phases, OneBar.away, OneBar.goes, Placing.held_ends}
 use Rattle.engine.proofs.phases.advance.Goals as goal
@@ -14,7 +15,7 @@ returns-then-filled c =
     let same = fill_in_place a.s a.rows.now _ c.requires.1.at.ring a.t.order a.t.position _ a.t.counts.bars_seen in
     rw c.not_sized.ensures (record {
       answer = away a.s a.t a.bar.now (rooms (turned (width a.s.slots) a.start a.rows.now) a.equity.now a.trades.now)
-          (lists a.entry.now a.exit.now a.short_entry.now a.short_exit.now)
+          (lists_of a.trees)
           c.candle_of-candle.ensures (c.fill_working_order-filled.ensures ∙ same) c.if-filled.true;
       at = c.requires.1.at;
     })
@@ -51,7 +52,7 @@ pub returns : goal.returns
 returns c =
     let a = c.args in
     let m : Rooms = rooms (turned (width a.s.slots) a.start a.rows.now) a.equity.now a.trades.now in
-    let ls : Lists = lists a.entry.now a.exit.now a.short_entry.now a.short_exit.now in
+    let ls : Lists = lists_of a.trees in
     let same = fill_in_place a.s a.rows.now _ c.requires.1.at.ring a.t.order a.t.position _ a.t.counts.bars_seen in
     let kept = placed a.span a.s.slots a.rows.now _ a.bar.now c.requires.1.at.ring c.requires.1.at.first
     c.place_for-place.ensures c.record_bar.ensures in

@@ -8,18 +8,16 @@ abbrev is_plain : List ℕ → ℕ → ℕ → ℕ → Bool
 is_plain x at mask k = slot_plain mask k (u64 x (at + 8 * k))
 
 pub loop-k-init : goal.loop-k-init
-loop-k-init c = let a = c.args in (omega arith, sym (every_none (is_plain a.image.now a.at a.mask)))
+loop-k-init c = let a = c.args in sym (every_none (is_plain a.image.now a.at a.mask))
 
 pub loop-k-preserved : goal.loop-k-preserved
 loop-k-preserved c =
     let a = c.args in
-    let k = c.loop-k.k in (
-      omega arith,
-      every_next (is_plain a.image.now a.at a.mask) k c.loop-k.invariant.1
-          (c.slot_plain-fine.ensures ∙ ap (λ (w : ℕ). slot_plain a.mask k w) c.word_at.ensures.0),
-    )
+    let k = c.loop-k.k in
+    every_next (is_plain a.image.now a.at a.mask) k c.loop-k.invariant
+    (c.slot_plain-fine.ensures ∙ ap (λ (w : ℕ). slot_plain a.mask k w) c.word_at.ensures.0)
 
 pub returns : goal.returns
 returns c =
-    let e : c.args.slots ≡ c.loop-k.k = omega (arith, c.loop-k-test.false) in
-    rw e c.loop-k.invariant.1
+    let e : c.args.slots ≡ c.loop-k.k = omega arith in
+    rw e c.loop-k.invariant

@@ -12,28 +12,28 @@ row_ends : (i n w place size : ℕ) → i < n → place ≡ 256 + 8 * (i * w) �
 row_ends i n w place size l e h = let more : (i + 1) * w ≤ n * w = mul-le-mul_right w (omega arith) in omega arith
 
 pub loop-i-init : goal.loop-i-init
-loop-i-init c = let a = c.args in (omega arith, every_none (is_fine a.image.now a.slots))
+loop-i-init c = let a = c.args in every_none (is_fine a.image.now a.slots)
 
 pub row_fine-requires : goal.row_fine-requires
 row_fine-requires c =
     let a = c.args in
-    (c.requires.0, row_ends c.loop-i.i a.n (7 + a.slots) _ _ c.loop-i-test.true c.row_place.ensures.0 c.requires.2)
+    (c.requires.0, row_ends c.loop-i.i a.n (7 + a.slots) _ _ (omega arith) c.row_place.ensures.0 c.requires.2)
 
 pub returns-then-not-row_fine : goal.returns-then-not-row_fine
 unfolding each_fine
 returns-then-not-row_fine c =
     let a = c.args in
     let told = c.row_fine.ensures ∙ ap (λ (p : ℕ). row_fine a.slots (words_at a.image.now p (row_words a.slots))) c.row_place.ensures.0 in
-    sym (every_no (is_fine a.image.now a.slots) c.loop-i.i (not_so told c.if-not-row_fine.true-raw) a.n c.loop-i-test.true)
+    sym (every_no (is_fine a.image.now a.slots) c.loop-i.i (not_so told c.if-not-row_fine.true-raw) a.n (omega arith))
 
 pub loop-i-preserved : goal.loop-i-preserved
 loop-i-preserved c =
     let a = c.args in
     let told = c.row_fine.ensures ∙ ap (λ (p : ℕ). row_fine a.slots (words_at a.image.now p (row_words a.slots))) c.row_place.ensures.0 in
-    (omega arith, every_more (is_fine a.image.now a.slots) c.loop-i.i c.loop-i.invariant.1 (so told c.if-not-row_fine.false-raw))
+    every_more (is_fine a.image.now a.slots) c.loop-i.i c.loop-i.invariant (so told c.if-not-row_fine.false-raw)
 
 pub returns : goal.returns
 unfolding each_fine
 returns c =
-    let e : c.args.n ≡ c.loop-i.i = omega (arith, c.loop-i-test.false) in
-    rw e (sym c.loop-i.invariant.1)
+    let e : c.args.n ≡ c.loop-i.i = omega arith in
+    rw e (sym c.loop-i.invariant)

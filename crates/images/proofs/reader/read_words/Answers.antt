@@ -5,16 +5,15 @@ use Rattle.images.proofs.reader.read_words.Goals as goal
 pub loop-i-init : goal.loop-i-init
 loop-i-init c =
     let a = c.args in
-    (omega arith, words_none a.image.now a.at a.room.now, refl)
+    (words_none a.image.now a.at a.room.now, refl)
 
 pub loop-i-preserved : goal.loop-i-preserved
 loop-i-preserved c =
     let a = c.args in (
-      omega arith,
-      words_more a.image.now a.at a.room.now c.loop-i.i c.word_at.result (omega (arith, c.requires.0)) c.loop-i.invariant.1
+      words_more a.image.now a.at a.room.now c.loop-i.i c.word_at.result (omega arith) c.loop-i.invariant.0
           c.word_at.ensures.0,
-      simp length-set c.loop-i.invariant.2,
+      simp length-set c.loop-i.invariant.1,
     )
 
 pub returns : goal.returns
-returns c = let e : c.args.n ≡ c.loop-i.i = omega arith in rw e c.loop-i.invariant.1
+returns c = let e : c.args.n ≡ c.loop-i.i = omega arith in rw e c.loop-i.invariant.0

@@ -1,7 +1,7 @@
 -- Room, settings and state are blocks, each judged by itself; the list of bars comes last.
 use Rattle.words.specs.Prelude.{refl, sym, ◌∙◌, rules}
 use Rattle.records.specs.{Lent.rooms}
-use Rattle.refusals.specs.{Day.day_lines}
+use Rattle.refusals.specs.{Day.day_lines, Laws.Fine.settings_fine}
 use Rattle.refusals.specs.Laws.Descent.{Below, top, past, stop, past_block, stop_block, all_hold}
 use Rattle.refusals.proofs.day.judge_day.Goals as goal
 
@@ -38,8 +38,7 @@ returns-in-Bad-judge_state c =
     stop_block past2 _ _ c.judge_state.ensures refl c.in-Bad-judge_state.is
 
 pub are_for-requires : goal.are_for-requires
-unfolding day_lines
-are_for-requires c = search rules
+are_for-requires c = (settings_fine c.args.s (sym c.judge_settings.ensures ∙ c.in_default-judge_settings.is)).slots
 
 pub returns-then-are_for : goal.returns-then-are_for
 unfolding day_lines

@@ -1,14 +1,16 @@
 -- An empty list is well formed. A bad step's place is below 1,024, so the sum fits. Assumes nothing.
-use Rattle.words.specs.Prelude.{sym, ◌∙◌, arith}
+use Rattle.words.specs.Prelude.{◌≡◌, sym, ◌∙◌, arith, length}
+use Rattle.std.proofs.lemmas.Grind.{common_steps}
 use Rattle.steps.specs.{Laws.Empty.empty_well}
 use Rattle.refusals.specs.{Lines.judged, Laws.BadStep.bad_below}
 use Rattle.refusals.proofs.lists.judge_list.Goals as goal
 
-pub returns-then-steps-eq0 : goal.returns-then-steps-eq0
+pub returns-then-is_empty : goal.returns-then-is_empty
 unfolding judged
-returns-then-steps-eq0 c =
+returns-then-is_empty c =
     let a = c.args in
-    simp (empty_well a.slots a.depth a.steps.now c.if-steps-eq0.true)
+    let none : length a.steps.now ≡ 0 = grind (arith, common_steps) in
+    simp (empty_well a.slots a.depth a.steps.now none)
 
 pub overflow_add-place : goal.overflow_add-place
 overflow_add-place c =

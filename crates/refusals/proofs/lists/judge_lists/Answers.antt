@@ -1,7 +1,6 @@
 -- Each list is a block, judged by itself.
 use Rattle.words.specs.Prelude.{refl, rules}
-use Rattle.records.specs.{Lent.lists}
-use Rattle.refusals.specs.{Lists.list_lines}
+use Rattle.refusals.specs.{Lists.lists_of, Lists.list_lines}
 use Rattle.refusals.specs.Laws.Descent.{Below, top, past_block, stop_block, last_block}
 use Rattle.refusals.proofs.lists.judge_lists.Goals as goal
 
@@ -21,7 +20,7 @@ pub returns-in-Bad-judge_list : goal.returns-in-Bad-judge_list
 unfolding list_lines
 returns-in-Bad-judge_list c =
     let past1 : (let a = c.args in
-    Below (list_lines a.slots a.depth (lists a.entry.now a.exit.now a.short_entry.now a.short_exit.now))) = past_block top _ _ c.judge_list.ensures refl c.in_default.is in
+    Below (list_lines a.slots a.depth (lists_of a.trees))) = past_block top _ _ c.judge_list.ensures refl c.in_default.is in
     stop_block past1 _ _ c.judge_list-2.ensures refl c.in-Bad-judge_list.is
 
 pub judge_list-requires-3 : goal.judge_list-requires-3
@@ -32,8 +31,8 @@ pub returns-in-Bad-judge_list-2 : goal.returns-in-Bad-judge_list-2
 unfolding list_lines
 returns-in-Bad-judge_list-2 c =
     let past2 : (let a = c.args in
-    Below (list_lines a.slots a.depth (lists a.entry.now a.exit.now a.short_entry.now a.short_exit.now))) = let past1 : (let a = c.args in
-    Below (list_lines a.slots a.depth (lists a.entry.now a.exit.now a.short_entry.now a.short_exit.now))) = past_block top _ _ c.judge_list.ensures refl c.in_default.is in
+    Below (list_lines a.slots a.depth (lists_of a.trees))) = let past1 : (let a = c.args in
+    Below (list_lines a.slots a.depth (lists_of a.trees))) = past_block top _ _ c.judge_list.ensures refl c.in_default.is in
     past_block past1 _ _ c.judge_list-2.ensures refl c.in_default-judge_list.is in
     stop_block past2 _ _ c.judge_list-3.ensures refl c.in-Bad-judge_list-2.is
 
@@ -45,9 +44,9 @@ pub returns : goal.returns
 unfolding list_lines
 returns c =
     let past3 : (let a = c.args in
-    Below (list_lines a.slots a.depth (lists a.entry.now a.exit.now a.short_entry.now a.short_exit.now))) = let past2 : (let a = c.args in
-    Below (list_lines a.slots a.depth (lists a.entry.now a.exit.now a.short_entry.now a.short_exit.now))) = let past1 : (let a = c.args in
-    Below (list_lines a.slots a.depth (lists a.entry.now a.exit.now a.short_entry.now a.short_exit.now))) = past_block top _ _ c.judge_list.ensures refl c.in_default.is in
+    Below (list_lines a.slots a.depth (lists_of a.trees))) = let past2 : (let a = c.args in
+    Below (list_lines a.slots a.depth (lists_of a.trees))) = let past1 : (let a = c.args in
+    Below (list_lines a.slots a.depth (lists_of a.trees))) = past_block top _ _ c.judge_list.ensures refl c.in_default.is in
     past_block past1 _ _ c.judge_list-2.ensures refl c.in_default-judge_list.is in
     past_block past2 _ _ c.judge_list-3.ensures refl c.in_default-judge_list-2.is in
     last_block past3 c.judge_list-4.ensures

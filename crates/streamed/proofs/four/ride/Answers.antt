@@ -1,4 +1,4 @@
-use Rattle.words.specs.Prelude.{ℕ, refl, sym, ◌∙◌, arith, length, length-replicate}
+use Rattle.words.specs.Prelude.{ℕ, ◌≡◌, refl, sym, ◌∙◌, arith, length, length-replicate}
 use Rattle.words.specs.{Limits.bar_words}
 use Rattle.streamed.proofs.{Riding.bar_within, Riding.record_long, Riding.calls_none, Riding.calls_all, Riding.calls_more}
 use Rattle.streamed.proofs.{Riding.calls_stop}
@@ -24,7 +24,7 @@ overflow_mul-from c =
     let a = c.args in
     omega (
       arith,
-      bar_within (length a.bars.now) (bar_words a.stream) c.loop-done.done a.count (omega arith) c.loop-done-test.true c.requires.2,
+      bar_within (length a.bars.now) (bar_words a.stream) c.loop-done.done a.count (omega arith) (omega arith) c.requires.2,
     )
 
 pub overflow_add-to : goal.overflow_add-to
@@ -33,7 +33,7 @@ overflow_add-to c =
     let a = c.args in
     omega (
       arith,
-      bar_within (length a.bars.now) (bar_words a.stream) c.loop-done.done a.count (omega arith) c.loop-done-test.true c.requires.2,
+      bar_within (length a.bars.now) (bar_words a.stream) c.loop-done.done a.count (omega arith) (omega arith) c.requires.2,
     )
 
 pub offset_bounds-bars-from : goal.offset_bounds-bars-from
@@ -42,7 +42,7 @@ offset_bounds-bars-from c =
     let a = c.args in
     omega (
       arith,
-      bar_within (length a.bars.now) (bar_words a.stream) c.loop-done.done a.count (omega arith) c.loop-done-test.true c.requires.2,
+      bar_within (length a.bars.now) (bar_words a.stream) c.loop-done.done a.count (omega arith) (omega arith) c.requires.2,
     )
 
 pub slice_bounds-step_own-end : goal.slice_bounds-step_own-end
@@ -50,7 +50,7 @@ slice_bounds-step_own-end c =
     let a = c.args in
     omega (
       arith,
-      bar_within (length a.bars.now) (bar_words a.stream) c.loop-done.done a.count (omega arith) c.loop-done-test.true c.requires.2,
+      bar_within (length a.bars.now) (bar_words a.stream) c.loop-done.done a.count (omega arith) (omega arith) c.requires.2,
     )
 
 pub slice_bounds-step_own-end-in-loop-done : goal.slice_bounds-step_own-end-in-loop-done
@@ -59,7 +59,7 @@ slice_bounds-step_own-end-in-loop-done c = sym c.loop-done.invariant.wide
 pub step_own-answer-requires : goal.step_own-answer-requires
 step_own-answer-requires c =
     let a = c.args in
-    let within = bar_within (length a.bars.now) (bar_words a.stream) c.loop-done.done a.count (omega arith) c.loop-done-test.true c.requires.2 in
+    let within = bar_within (length a.bars.now) (bar_words a.stream) c.loop-done.done a.count (omega arith) (omega arith) c.requires.2 in
     (record_long (bar_words a.stream) a.bars.now c.loop-done.done within, c.requires.1, omega (arith, c.loop-done.invariant.wide, c.requires.0, c.requires.1))
 
 pub shape_of-state-then-answer-ne0 : goal.shape_of-state-then-answer-ne0
@@ -77,28 +77,13 @@ shape_of-trades-then-answer-ne0 c = c.step_own-answer.auto.trades ∙ c.loop-don
 -- an account that refuses a bar
 pub returns-then-answer-ne0 : goal.returns-then-answer-ne0
 returns-then-answer-ne0 c =
-    calls_stop _ _ _ _ _ _ _ c.loop-done.done c.loop-done-test.true _ c.loop-done.invariant.after c.step_own-answer.ensures c.if-answer-ne0.true
-
-pub overflow_add-done : goal.overflow_add-done
-overflow_add-done c =
-    let good = c.well_formed in
-    omega (
-      arith,
-      c.loop-done-test.true,
-    )
-
-pub loop-done-smaller : goal.loop-done-smaller
-loop-done-smaller c =
-    omega (
-      arith,
-      c.loop-done-test.true,
-    )
+    calls_stop _ _ _ _ _ _ _ c.loop-done.done (omega arith) _ c.loop-done.invariant.after c.step_own-answer.ensures c.if-answer-ne0.true
 
 pub loop-done-preserved : goal.loop-done-preserved
 loop-done-preserved c =
     let inv = c.loop-done.invariant in
     record {
-      after = calls_more _ _ _ _ _ _ _ c.loop-done.done c.loop-done-test.true _ inv.after c.step_own-answer.ensures c.if-answer-ne0.false;
+      after = calls_more _ _ _ _ _ _ _ c.loop-done.done (omega arith) _ inv.after c.step_own-answer.ensures c.if-answer-ne0.false;
       state = c.step_own-answer.auto.state ∙ inv.state;
       rows = c.step_own-answer.auto.rows ∙ inv.rows;
       equity = c.step_own-answer.auto.equity ∙ inv.equity;
@@ -120,4 +105,7 @@ shape_of-trades c = c.loop-done.invariant.trades
 
 -- all bars are taken
 pub returns : goal.returns
-returns c = calls_all _ _ _ _ _ _ _ c.loop-done.done c.loop-done-test.false c.loop-done.invariant.after
+returns c =
+    let all = calls_all _ _ _ _ _ _ _ c.loop-done.done (omega arith) c.loop-done.invariant.after in
+    let n : c.loop-done.done ≡ c.args.count = omega arith in
+    cc

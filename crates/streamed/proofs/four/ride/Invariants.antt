@@ -1,5 +1,5 @@
 -- Each turn steps over a bar, and what is left of the bars is stepped over from there.
-use Rattle.words.specs.Prelude.{◌-◌, []}
+use Rattle.words.specs.Prelude.{[]}
 use Rattle.words.specs.{Limits.bar_words}
 use Rattle.records.specs.{Lent.lists}
 use Rattle.accounts.specs.{Own.own_bar}
@@ -9,6 +9,3 @@ use Rattle.streamed.proofs.four.ride.Given as goal
 abbrev pub invariant-loop-done : goal.invariant-loop-done
 invariant-loop-done l = Turn l.settings (lists l.entry l.exit [] []) (own_bar l.stream l.slots) l.bars l.count (bar_words l.stream) (step_lent l.initial.state l.initial.rows l.initial.equity l.initial.trades) l.own l.done
     (step_lent l.state l.rows l.equity l.trades)
-
-abbrev pub decreases-loop-done : goal.decreases-loop-done
-decreases-loop-done l = l.count - l.done
