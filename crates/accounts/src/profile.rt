@@ -1,11 +1,8 @@
 // The profile: which accounts may ride on the stream.
 ghost use Rattle.std.specs.Prelude.{◌≡◌};
 ghost use Rattle.accounts.specs.Profile.{no_short_trees, leverage_within, slots_within, within_profile, profile_judged};
-
-use execution::optional::Optional;
 use records::settings::Settings;
 use refusals::verdict::Verdict;
-use table::answer::Answer;
 use table::header::count;
 use words::refusal::Refusal;
 
@@ -20,12 +17,12 @@ fn no_short_trees(table: &[u8]) -> bool
 }
 
 // Whether a leverage is at most 1. One that is not given is 1; a NaN is not at most 1.
-fn leverage_within(leverage: Optional) -> bool
+fn leverage_within(leverage: Option<f64>) -> bool
     ensures { result ≡ leverage_within leverage }
 {
     match leverage {
-        Optional::Absent => true,
-        Optional::Of(x) => x <= 1.0,
+        None => true,
+        Some(x) => x <= 1.0,
     }
 }
 
@@ -62,15 +59,12 @@ pub fn judge_profile(table: &[u8], s: Settings, stream: usize) -> Verdict
     let checked = table::check(table);
     let answer = checked.answer;
     match answer {
-        Answer::Refused(refusal) => Verdict::Bad(refusal),
-        Answer::Accepted { nodes: _, rows: _ } => {
+        Err(refusal) => Err(refusal),
+        Ok(_) => {
             if within_profile(table, s, stream) {
-                return Verdict::Fine;
+                return Ok(());
             }
-            Verdict::Bad(Refusal {
-                number: 21,
-                place: 0,
-            })
+            Err(Refusal::Profile)
         }
     }
 }

@@ -1,8 +1,7 @@
 // The stream: its slots and its bars are judged before any account, and once for all of them.
-ghost use Rattle.std.specs.Prelude.{◌≡◌, ◌/◌, length};
+ghost use Rattle.std.specs.Prelude.{◌≡◌, ◌/◌, length, Ok};
 ghost use Rattle.refusals.specs.Lines.{judged};
 ghost use Rattle.words.specs.Limits.{bar_words};
-ghost use Rattle.refusals.specs.declared.verdict.Verdict.TheVariants.{Fine};
 ghost use Rattle.engine.specs.Day.{in_records};
 ghost use Rattle.accounts.specs.Stream.{stream_lines, stream_bar_lines, stream_takes, stream_taken};
 
@@ -23,24 +22,15 @@ fn judge_stream(slots: usize, seen: u64, bars: &[u64]) -> Verdict
     ensures { result ≡ judged (stream_lines slots seen bars.now) }
 {
     if MOST_SLOTS < slots {
-        return Verdict::Bad(Refusal {
-            number: 12,
-            place: 0,
-        });
+        return Err(Refusal::Setting(0));
     }
     if MOST_COUNT < seen {
-        return Verdict::Bad(Refusal {
-            number: 13,
-            place: 0,
-        });
+        return Err(Refusal::Records);
     }
     if bars.len() % (BAR_FIXED + slots) == 0 {
-        return Verdict::Fine;
+        return Ok(());
     }
-    Verdict::Bad(Refusal {
-        number: 13,
-        place: 0,
-    })
+    Err(Refusal::Records)
 }
 
 // 14 and 11, of each bar.
@@ -48,17 +38,14 @@ fn judge_next(slots: usize, seen: u64, bar: &[u64]) -> Verdict
     ensures { result ≡ judged (stream_bar_lines slots seen bar.now) }
 {
     if MOST_COUNT <= seen {
-        return Verdict::Bad(Refusal {
-            number: 14,
-            place: 0,
-        });
+        return Err(Refusal::Full);
     }
     judge_bar(slots, bar, seen)
 }
 
 // Bar after bar, until one is refused.
 fn take_whole(slots: usize, seen: u64, bars: &[u64]) -> StreamTaken
-    requires { judged (stream_lines slots seen bars.now) ≡ Fine }
+    requires { judged (stream_lines slots seen bars.now) ≡ Ok tt }
     ensures { result ≡ stream_takes slots seen (in_records (length bars.now / bar_words slots) (bar_words slots) bars.now) }
 {
     let width = BAR_FIXED + slots;
@@ -67,16 +54,16 @@ fn take_whole(slots: usize, seen: u64, bars: &[u64]) -> StreamTaken
         let from = done * width;
         let to = from + width;
         let verdict = judge_next(slots, seen + done as u64, &bars[from..to]);
-        if let Verdict::Bad(refusal) = verdict {
+        if let Err(refusal) = verdict {
             return StreamTaken {
                 done,
-                verdict: Verdict::Bad(refusal),
+                verdict: Err(refusal),
             };
         }
     }
     StreamTaken {
         done: count,
-        verdict: Verdict::Fine,
+        verdict: Ok(()),
     }
 }
 
@@ -87,13 +74,13 @@ pub fn take_bars(slots: usize, seen: u64, bars: &[u64]) -> StreamTaken
     if bars.is_empty() {
         return StreamTaken {
             done: 0,
-            verdict: Verdict::Fine,
+            verdict: Ok(()),
         };
     }
-    if let Verdict::Bad(refusal) = judge_stream(slots, seen, bars) {
+    if let Err(refusal) = judge_stream(slots, seen, bars) {
         return StreamTaken {
             done: 0,
-            verdict: Verdict::Bad(refusal),
+            verdict: Err(refusal),
         };
     }
     take_whole(slots, seen, bars)

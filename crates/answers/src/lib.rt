@@ -8,11 +8,12 @@ ghost use Rattle.table.specs.Checked.{checked};
 ghost use Rattle.answers.specs.Text.{put, next, IsPrefixLen};
 ghost use Rattle.answers.specs.Lines.{two_numbers, line_of};
 
+use words::refusal::Refusal;
+use table::answer::Accepted;
 use put::{put, put_decimal};
 use std::alloc::Global;
 use std::io;
 use std::io::{Read, Write};
-use table::answer::Answer;
 
 // "the first 4,113 bytes": as many bytes of an input as a program reads. One more than the longest table has, so that a longer input is
 // refused: the stored input of `toolong` is that long.
@@ -35,25 +36,25 @@ fn put_numbers(room: &mut [u8], what: &[u8], first: u64, then: &[u8], second: u6
 
 // Puts the line of an answer at the start of the room and answers how many bytes it has, 62 at the most; where it does not
 // fit, 0, and the room is as it was.
-pub fn put_answer(room: &mut [u8], answer: Answer) -> usize
+pub fn put_answer(room: &mut [u8], answer: Result<Accepted, Refusal>) -> usize
     ensures value { result ≡ next room.old 0 (line_of answer) }
     ensures room_after { room.new ≡ put room.old 0 (line_of answer) }
     ensures prefix_len { IsPrefixLen result room.new }
 {
     match answer {
-        Answer::Accepted { nodes, rows } => put_numbers(
+        Ok(Accepted { nodes, rows }) => put_numbers(
             room,
             b"accepted nodes ",
             nodes as u64,
             b" rows ",
             rows,
         ),
-        Answer::Refused(refusal) => put_numbers(
+        Err(refusal) => put_numbers(
             room,
             b"refused ",
-            refusal.number,
+            refusal.number(),
             b" at ",
-            refusal.place,
+            refusal.place(),
         ),
     }
 }

@@ -1,10 +1,9 @@
 -- Bars behind bars: their records, what the stream takes of them, and what an account's calls over them come to.
-use Rattle.std.specs.Prelude.{ℕ, zero, suc, ◌+◌, ◌*◌, ◌/◌, ◌^◌, ◌≤◌, ◌≡◌, refl, Bool, true, false, cond, List, [], ◌∷◌, ◌++◌, eqb, length, drop}
+use Rattle.std.specs.Prelude.{ℕ, zero, suc, ◌+◌, ◌*◌, ◌/◌, ◌^◌, ◌≤◌, ◌≡◌, refl, Bool, true, false, cond, List, [], ◌∷◌, ◌++◌, eqb, length, drop, Err, Ok}
 use Rattle.words.specs.Prelude.{sym, arith, ltb-true}
 use Rattle.words.specs.Prelude.{eqb-false, length-drop}
 use Rattle.words.specs.{declared.refusal.Refusal.Refusal, Limits.most_count}
 use Rattle.records.specs.{Lent.Lists}
-use Rattle.refusals.specs.{declared.verdict.Verdict.Verdict, declared.verdict.Verdict.TheVariants.Fine, declared.verdict.Verdict.TheVariants.Bad}
 use Rattle.refusals.specs.{Laws.Lines.never, Laws.Lines.first_holds, Lines.judged}
 use Rattle.engine.specs.{Day.in_records}
 use Rattle.accounts.specs.{declared.stream.StreamTaken.StreamTaken, Laws.Stream.more_taken, Stream.stream_bar_lines, Stream.one_more_taken, Stream.taken_unless}
@@ -12,6 +11,7 @@ use Rattle.accounts.specs.{Stream.stream_takes}
 use Rattle.replies.specs.{Call.Call}
 use Rattle.stepping.specs.{Bars.StepLent, Bars.step_call, WordRun.WordRun, WordRun.call_more, WordRun.calls_over}
 use Rattle.capi.specs.{Laws.RunCalls.step_honest}
+use Rattle.refusals.specs.{Lines.Verdict}
 use Rattle.std.proofs.lemmas.List.{take-append-le, drop-append-le}
 
 -- ---- records of words
@@ -41,13 +41,13 @@ records_behind (suc n) m w a b h =
 -- ---- the stream
 
 -- a bar that is taken, and those after it
-one_more : (v : Verdict) (t : StreamTaken) → (taken_unless v (one_more_taken t)).verdict ≡ Fine → (v ≡ Fine) × (t.verdict ≡ Fine)
+one_more : (v : Verdict) (t : StreamTaken) → (taken_unless v (one_more_taken t)).verdict ≡ Ok tt → (v ≡ Ok tt) × (t.verdict ≡ Ok tt)
 unfolding taken_unless
-one_more Fine t e = (refl, e)
-one_more (Bad why) t e = never e
+one_more (Ok tt) t e = (refl, e)
+one_more (Err why) t e = never e
 
 -- where all of the front is taken, so is of all what is taken behind it, with so many bars more
-pub takes_behind : (S : ℕ) (a b : List (List ℕ)) (seen : ℕ) → (stream_takes S seen a).verdict ≡ Fine
+pub takes_behind : (S : ℕ) (a b : List (List ℕ)) (seen : ℕ) → (stream_takes S seen a).verdict ≡ Ok tt
     → stream_takes S seen (a ++ b) ≡ more_taken (length a) (stream_takes S (seen + length a) b)
 unfolding stream_takes taken_unless
 takes_behind S [] b seen e =
@@ -61,7 +61,7 @@ takes_behind S (bar ∷ a) b seen e =
     rw (own.0, takes_behind S a b (seen + 1) own.1, on, all)
 
 -- then each of them is counted, and the stream's bars are a count still
-pub takes_all : (S : ℕ) (a : List (List ℕ)) (seen : ℕ) → (stream_takes S seen a).verdict ≡ Fine → (stream_takes S seen a).done ≡ length a
+pub takes_all : (S : ℕ) (a : List (List ℕ)) (seen : ℕ) → (stream_takes S seen a).verdict ≡ Ok tt → (stream_takes S seen a).done ≡ length a
 unfolding stream_takes taken_unless
 takes_all S [] seen e = refl
 takes_all S (bar ∷ a) seen e =
@@ -69,7 +69,7 @@ takes_all S (bar ∷ a) seen e =
     let on = takes_all S a (seen + 1) own.1 in
     rw own.0 (omega (arith, on))
 
-pub takes_early : (S : ℕ) (a : List (List ℕ)) (seen : ℕ) → seen ≤ most_count → (stream_takes S seen a).verdict ≡ Fine → seen + length a ≤ most_count
+pub takes_early : (S : ℕ) (a : List (List ℕ)) (seen : ℕ) → seen ≤ most_count → (stream_takes S seen a).verdict ≡ Ok tt → seen + length a ≤ most_count
 unfolding stream_takes stream_bar_lines
 takes_early S [] seen early e = omega arith
 takes_early S (bar ∷ a) seen early e =
@@ -79,17 +79,17 @@ takes_early S (bar ∷ a) seen early e =
     omega (arith, on)
 
 -- a bar of the front that is refused ends both
-pub takes_ended : (S : ℕ) (a b : List (List ℕ)) (seen : ℕ) (why : Refusal) → (stream_takes S seen a).verdict ≡ Bad why
+pub takes_ended : (S : ℕ) (a b : List (List ℕ)) (seen : ℕ) (why : Refusal) → (stream_takes S seen a).verdict ≡ Err why
     → stream_takes S seen (a ++ b) ≡ stream_takes S seen a
 unfolding stream_takes
 takes_ended S [] b seen why e = never (sym e)
 takes_ended S (bar ∷ a) b seen why e = go (judged (stream_bar_lines S seen bar)) (takes_ended S a b (seen + 1) why) e
   where
-    go : (v : Verdict) → ((stream_takes S (seen + 1) a).verdict ≡ Bad why → stream_takes S (seen + 1) (a ++ b) ≡ stream_takes S (seen + 1) a)
-        → (taken_unless v (one_more_taken (stream_takes S (seen + 1) a))).verdict ≡ Bad why
+    go : (v : Verdict) → ((stream_takes S (seen + 1) a).verdict ≡ Err why → stream_takes S (seen + 1) (a ++ b) ≡ stream_takes S (seen + 1) a)
+        → (taken_unless v (one_more_taken (stream_takes S (seen + 1) a))).verdict ≡ Err why
         → taken_unless v (one_more_taken (stream_takes S (seen + 1) (a ++ b))) ≡ taken_unless v (one_more_taken (stream_takes S (seen + 1) a))
-    go (Bad r) later f = unfold taken_unless in refl
-    go Fine later f = unfold taken_unless in rw (later f)
+    go (Err r) later f = unfold taken_unless in refl
+    go (Ok tt) later f = unfold taken_unless in rw (later f)
 
 -- ---- calls of a step
 

@@ -1,14 +1,15 @@
 -- A bar that 11 accepts for the stream's slots is, cut to an account's, one that 11 accepts for fewer.
-use Rattle.std.specs.Prelude.{ℕ, zero, suc, ◌+◌, ◌-◌, ◌/◌, ◌%◌, ◌^◌, ◌<◌, ◌≤◌, ◌≡◌, refl, Bool, true, false, cond, List, [], ◌∷◌, ◌++◌, ltb, length, take}
+use Rattle.std.specs.Prelude.{ℕ, zero, suc, ◌+◌, ◌-◌, ◌/◌, ◌%◌, ◌^◌, ◌<◌, ◌≤◌, ◌≡◌, refl, Bool, true, false, cond, List, [], ◌∷◌, ◌++◌, ltb, length, take, Ok}
 use Rattle.std.specs.Prelude.{drop}
 use Rattle.words.specs.Prelude.{sym, ap, ◌∙◌, ⊎_elim}
 use Rattle.words.specs.Prelude.{div-eq_of_lt, mod-lt, lt_of_lt_of_le, arith, lt-ltb, length-append, length-drop, List·get_or-append}
 use Rattle.words.specs.Prelude.{pow_mono, pow_pos, get_or-take, get_or-drop, get_or-append-add, get_or-append_seam, length-take-le}
 use Rattle.words.specs.{Laws.Numbers.less_or_not, Limits.bar_words, Limits.most_slots, Words.word}
 use Rattle.records.specs.{Bar.candle_of, Bar.funding_of}
-use Rattle.refusals.specs.{declared.verdict.Verdict.TheVariants.Fine, Bar.bit_fine, Bar.slot_fine, Bar.every, Bar.slots_fine, Bar.candle_fine, Bar.funding_fine}
+use Rattle.refusals.specs.{Bar.bit_fine, Bar.slot_fine, Bar.every, Bar.slots_fine, Bar.candle_fine, Bar.funding_fine}
 use Rattle.refusals.specs.{Bar.bar_lines, Laws.Lines.and_true, Laws.Lines.first_holds, Lines.line, Lines.judged}
 use Rattle.accounts.specs.{Own.low_bits, Own.own_bar}
+use Rattle.words.specs.declared.refusal.Refusal.TheVariants as Refusal
 use Rattle.std.proofs.Math.Pow.{field, mod-mod-pow}
 
 -- what is so of each number below n is so of k
@@ -26,12 +27,12 @@ each_every f (suc n) g = rw (each_every f n (λ k h. g k (omega arith)), g n (om
 
 -- three lines that hold are fine
 three_hold : (a b c : Bool) (seen : ℕ) → a ≡ true → b ≡ true → c ≡ true
-    → judged (line a 11 seen ∷ line b 11 seen ∷ line c 11 seen ∷ []) ≡ Fine
+    → judged (line a (Refusal.Bar seen) ∷ line b (Refusal.Bar seen) ∷ line c (Refusal.Bar seen) ∷ []) ≡ Ok tt
 unfolding judged
 three_hold a b c seen p q r = rw (p, q, r)
 
 -- the place is not looked at
-pub fine_anywhere : (S : ℕ) (bar : List ℕ) (seen seen' : ℕ) → judged (bar_lines S bar seen) ≡ Fine → judged (bar_lines S bar seen') ≡ Fine
+pub fine_anywhere : (S : ℕ) (bar : List ℕ) (seen seen' : ℕ) → judged (bar_lines S bar seen) ≡ Ok tt → judged (bar_lines S bar seen') ≡ Ok tt
 unfolding bar_lines
 fine_anywhere S bar seen seen' h =
     let candle = first_holds _ _ h in
@@ -131,7 +132,7 @@ module _ (S K : ℕ) (bar : List ℕ) (whole : length bar ≡ bar_words S) (few 
       (λ (far : K ≤ k). rw (own_mask, no_bit k far h)) (less_or_not k K)
 
   -- THE OWN PART OF A FINE BAR IS FINE, whatever the bars seen
-  pub own_fine : (seen seen' : ℕ) → judged (bar_lines S bar seen) ≡ Fine → judged (bar_lines K (own_bar S K bar) seen') ≡ Fine
+  pub own_fine : (seen seen' : ℕ) → judged (bar_lines S bar seen) ≡ Ok tt → judged (bar_lines K (own_bar S K bar) seen') ≡ Ok tt
   unfolding bar_lines slots_fine
   own_fine seen seen' h =
       let candle : candle_fine (candle_of bar) ≡ true = (first_holds _ _ h).0 in

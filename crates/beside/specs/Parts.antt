@@ -1,8 +1,7 @@
 -- Request 14: one call over a list of bars is calls over its parts.
-use Rattle.std.specs.Prelude.{ℕ, ◌+◌, ◌≤◌, ◌≡◌, refl, true, cond, List, [], ◌∷◌, ◌++◌, eqb, length}
+use Rattle.std.specs.Prelude.{ℕ, ◌+◌, ◌≤◌, ◌≡◌, refl, true, cond, List, [], ◌∷◌, ◌++◌, eqb, length, Err, Ok}
 use Rattle.words.specs.Prelude.{sym, ap, subst, ◌∙◌, append-nil, arith, ne_eqb, leb-true}
 use Rattle.words.specs.{declared.refusal.Refusal.Refusal, Limits.bar_words, Words.word}
-use Rattle.refusals.specs.{declared.verdict.Verdict.Verdict, declared.verdict.Verdict.TheVariants.Fine, declared.verdict.Verdict.TheVariants.Bad}
 use Rattle.refusals.specs.{Day.whole_bars, Laws.Lines.never, Laws.Lines.first_holds, Lines.judged}
 use Rattle.engine.specs.{Day.in_records}
 use Rattle.accounts.specs.{declared.stream.StreamTaken.StreamTaken, Laws.Stream.records_length, Laws.Stream.taken_within, Status.status_words}
@@ -15,6 +14,7 @@ use Rattle.capi.specs.{AsIfAlone.lent_to, AsIfAlone.taken, AsIfAlone.rooms_judge
 use Rattle.beside.specs.{Appended.records_front, Appended.records_behind, Honest.call_judged, Honest.accounts_honest, NeverEleven.statuses}
 use Rattle.beside.specs.{AccountBehind.status_long, AccountBehind.account_behind, StreamBehind.counted, StreamBehind.stream_long, StreamBehind.whole_both}
 use Rattle.beside.specs.{StreamBehind.Behind, StreamBehind.taken_behind, StreamBehind.taken_ended}
+use Rattle.refusals.specs.{Lines.Verdict}
 use Rattle.std.proofs.Math.Nat.{zero-mod}
 
 -- ---- what is said
@@ -52,7 +52,7 @@ WholeParts S (part ∷ parts) = (whole_bars S part ≡ true) × WholeParts S par
 -- ---- the call
 
 -- where the rooms have their words
-module _ (g : Four) (l : AccountsLent) (a b : List ℕ) (fine : rooms_judged a g l ≡ Fine) where
+module _ (g : Four) (l : AccountsLent) (a b : List ℕ) (fine : rooms_judged a g l ≡ Ok tt) where
   abbrev S : ℕ
   S = word l.stream 0
 
@@ -74,7 +74,7 @@ module _ (g : Four) (l : AccountsLent) (a b : List ℕ) (fine : rooms_judged a g
   two : stream_words ≤ length l.stream
   two = unfold accounts_lines in leb-true _ _ (first_holds _ _ fine).0
 
-  rooms_again : judged (accounts_lines left.stream left.first.status left.second.status left.third.status left.fourth.status) ≡ Fine
+  rooms_again : judged (accounts_lines left.stream left.first.status left.second.status left.third.status left.fourth.status) ≡ Ok tt
   unfolding accounts_lines after_bars
   rooms_again =
       rw (
@@ -88,13 +88,13 @@ module _ (g : Four) (l : AccountsLent) (a b : List ℕ) (fine : rooms_judged a g
 
   module _ (front : whole_bars S a ≡ true) (back : whole_bars S b ≡ true) where
     -- a bar of the first list that is refused ends both
-    call_ended : (why : Refusal) → (stream_taken S s a).verdict ≡ Bad why → accounts_call (a ++ b) g l ≡ accounts_call a g l
+    call_ended : (why : Refusal) → (stream_taken S s a).verdict ≡ Err why → accounts_call (a ++ b) g l ≡ accounts_call a g l
     unfolding after_bars
     call_ended why bad =
         call_is (a ++ b)
         ∙ (rw (taken_ended S s a b front back why bad, records_front n (bar_words S) a b (taken_within S s a).words) (sym (call_is a)))
 
-    module _ (all : (stream_taken S s a).verdict ≡ Fine) where
+    module _ (all : (stream_taken S s a).verdict ≡ Ok tt) where
       -- what the stream takes of the second
       abbrev u : StreamTaken
       u = stream_taken S (s + n) b
@@ -141,7 +141,7 @@ module _ (g : Four) (l : AccountsLent) (a b : List ℕ) (fine : rooms_judged a g
           )
 
 -- a refusal of the call's own, or of a bar, is no 0
-not_zero : (bars : List ℕ) (g : Four) (l : AccountsLent) (why : Refusal) → call_judged bars g l ≡ Bad why → (accounts_call bars g l).answer ≡ 0 → ⊥
+not_zero : (bars : List ℕ) (g : Four) (l : AccountsLent) (why : Refusal) → call_judged bars g l ≡ Err why → (accounts_call bars g l).answer ≡ 0 → ⊥
 not_zero bars g l why bad none = never (sym bad ∙ (accounts_honest bars g l).does none)
 
 -- a call that answered 0
@@ -156,22 +156,22 @@ call_behind g l a b front back = go (rooms_judged a g l) refl
   where
     go : (v : Verdict) → rooms_judged a g l ≡ v
         → (let c = accounts_call a g l in accounts_call (a ++ b) g l ≡ cond (eqb c.answer 0) (done_before c.lent.done (accounts_call b g c.lent)) c)
-    go (Bad why) e =
+    go (Err why) e =
         let same : accounts_call (a ++ b) g l ≡ accounts_call a g l = unfold accounts_call accounts_by in rw e in
         rw (ne_eqb (accounts_call a g l).answer 0 (not_zero a g l why (rw e)), same)
-    go Fine e = by (stream_taken (word l.stream 0) (word l.stream 1) a).verdict refl
+    go (Ok tt) e = by (stream_taken (word l.stream 0) (word l.stream 1) a).verdict refl
       where
         by : (v : Verdict) → (stream_taken (word l.stream 0) (word l.stream 1) a).verdict ≡ v
             → (let c = accounts_call a g l in accounts_call (a ++ b) g l ≡ cond (eqb c.answer 0) (done_before c.lent.done (accounts_call b g c.lent)) c)
-        by (Bad why) f =
+        by (Err why) f =
             rw (ne_eqb (accounts_call a g l).answer 0 (not_zero a g l why (rw (e, f)))) (call_ended g l a b e front back why f)
-        by Fine f =
+        by (Ok tt) f =
             on_zero b g (accounts_call a g l) (left g l a b e) (call_zero g l a b e front back f) (call_on g l a b e front back f)
 
 -- rooms that have their words have them after a call
-pub rooms_stay : (bars : List ℕ) (g : Four) (l : AccountsLent) → rooms_judged bars g l ≡ Fine → rooms_judged bars g (accounts_call bars g l).lent ≡ Fine
+pub rooms_stay : (bars : List ℕ) (g : Four) (l : AccountsLent) → rooms_judged bars g l ≡ Ok tt → rooms_judged bars g (accounts_call bars g l).lent ≡ Ok tt
 rooms_stay bars g l e =
-    subst (λ (m : AccountsLent). judged (accounts_lines m.stream m.first.status m.second.status m.third.status m.fourth.status) ≡ Fine)
+    subst (λ (m : AccountsLent). judged (accounts_lines m.stream m.first.status m.second.status m.third.status m.fourth.status) ≡ Ok tt)
     (sym (ap (λ (c : Call AccountsLent). c.lent) (call_is g l bars [] e bars))) (rooms_again g l bars [] e)
 
 -- the slots of the stream stay
@@ -179,8 +179,8 @@ pub slots_stay : (bars : List ℕ) (g : Four) (l : AccountsLent) → word (accou
 slots_stay bars g l = go (rooms_judged bars g l) refl
   where
     go : (v : Verdict) → rooms_judged bars g l ≡ v → word (accounts_call bars g l).lent.stream 0 ≡ word l.stream 0
-    go (Bad why) e = unfold accounts_call accounts_by in rw e
-    go Fine e = unfold accounts_call accounts_by after_bars in rw e (counted l.stream (taken bars g l).done 0 (two g l bars [] e)).slots
+    go (Err why) e = unfold accounts_call accounts_by in rw e
+    go (Ok tt) e = unfold accounts_call accounts_by after_bars in rw e (counted l.stream (taken bars g l).done 0 (two g l bars [] e)).slots
 
 -- parts of whole bars make whole bars
 whole_all : (S : ℕ) (parts : List (List ℕ)) → WholeParts S parts → whole_bars S (all_of parts) ≡ true

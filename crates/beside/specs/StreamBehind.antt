@@ -1,16 +1,16 @@
 -- The stream over bars behind bars: its words, and what it takes of two lists of whole bars.
-use Rattle.std.specs.Prelude.{ℕ, zero, suc, ◌+◌, ◌*◌, ◌/◌, ◌%◌, ◌≤◌, ◌≡◌, refl, Bool, true, false, cond, List, [], ◌∷◌, ◌++◌, eqb, length}
+use Rattle.std.specs.Prelude.{ℕ, zero, suc, ◌+◌, ◌*◌, ◌/◌, ◌%◌, ◌≤◌, ◌≡◌, refl, Bool, true, false, cond, List, [], ◌∷◌, ◌++◌, eqb, length, Err, Ok}
 use Rattle.words.specs.Prelude.{sym, ◌∙◌, add-mul, div-add-mod'}
 use Rattle.words.specs.Prelude.{mul-div_cancel, mul-mod_left, zero-div, arith, eq-eqb, ne_eqb, eqb-true, le-leb, length-append}
 use Rattle.words.specs.{declared.refusal.Refusal.Refusal, Laws.Overwrite.overwrite-length, Limits.bar_words, Limits.most_count, Limits.most_slots, Words.word}
 use Rattle.words.specs.{Words.overwrite}
-use Rattle.refusals.specs.{declared.verdict.Verdict.Verdict, declared.verdict.Verdict.TheVariants.Fine, declared.verdict.Verdict.TheVariants.Bad}
 use Rattle.refusals.specs.{Day.whole_bars, Laws.Lines.never, Lines.judged}
 use Rattle.engine.specs.{Day.in_records}
 use Rattle.accounts.specs.{Laws.Stream.records_length, Laws.Stream.more_taken, Laws.Stream.stream_fine, Stream.stream_lines, Stream.none_taken, Stream.taken_unless}
 use Rattle.accounts.specs.{Stream.stream_takes, Stream.stream_taken}
 use Rattle.streamed.specs.{Accounts.stream_words, Accounts.stream_after}
 use Rattle.beside.specs.{Appended.records_behind, Appended.takes_behind, Appended.takes_all, Appended.takes_early, Appended.takes_ended}
+use Rattle.refusals.specs.{Lines.Verdict}
 
 -- ---- the stream's words
 
@@ -61,7 +61,7 @@ stream_long stream seen n = go (eqb n 0)
 -- ---- what the stream takes
 
 -- the lines of a stream ask of its words, and of a list that it is whole bars
-lines_hold : (S seen : ℕ) (bars : List ℕ) → S ≤ most_slots → seen ≤ most_count → whole_bars S bars ≡ true → judged (stream_lines S seen bars) ≡ Fine
+lines_hold : (S seen : ℕ) (bars : List ℕ) → S ≤ most_slots → seen ≤ most_count → whole_bars S bars ≡ true → judged (stream_lines S seen bars) ≡ Ok tt
 unfolding stream_lines judged
 lines_hold S seen bars few early whole = rw (le-leb S most_slots few, le-leb seen most_count early, whole)
 
@@ -74,23 +74,23 @@ abbrev bars_of : ℕ → List ℕ → List (List ℕ)
 bars_of S ws = in_records (length ws / bar_words S) (bar_words S) ws
 
 -- with lines that hold, it takes bar after bar; no bars are none
-taken_is : (S seen : ℕ) (ws : List ℕ) → judged (stream_lines S seen ws) ≡ Fine → stream_taken S seen ws ≡ stream_takes S seen (bars_of S ws)
+taken_is : (S seen : ℕ) (ws : List ℕ) → judged (stream_lines S seen ws) ≡ Ok tt → stream_taken S seen ws ≡ stream_takes S seen (bars_of S ws)
 unfolding stream_taken taken_unless in_records stream_takes
 taken_is S seen ws fine = go (eqb (length ws) 0) refl
   where
     go : (b : Bool) → eqb (length ws) 0 ≡ b
-        → cond b (none_taken Fine) (taken_unless (judged (stream_lines S seen ws)) (stream_takes S seen (bars_of S ws))) ≡ stream_takes S seen (bars_of S ws)
+        → cond b (none_taken (Ok tt)) (taken_unless (judged (stream_lines S seen ws)) (stream_takes S seen (bars_of S ws))) ≡ stream_takes S seen (bars_of S ws)
     go true e = let none : length ws ≡ 0 = eqb-true _ _ e in rw (none, zero-div)
     go false e = rw fine
 
 -- with one that does not, it takes nothing
-taken_not : (S seen : ℕ) (x : ℕ) (ws : List ℕ) (why : Refusal) → judged (stream_lines S seen (x ∷ ws)) ≡ Bad why
-    → stream_taken S seen (x ∷ ws) ≡ none_taken (Bad why)
+taken_not : (S seen : ℕ) (x : ℕ) (ws : List ℕ) (why : Refusal) → judged (stream_lines S seen (x ∷ ws)) ≡ Err why
+    → stream_taken S seen (x ∷ ws) ≡ none_taken (Err why)
 unfolding stream_taken taken_unless
 taken_not S seen x ws why bad = rw (ne_eqb (length (x ∷ ws)) 0 (λ e. omega (arith, e)), bad)
 
 -- of no bars it takes none, and refuses nothing
-taken_none : (S seen : ℕ) → stream_taken S seen [] ≡ none_taken Fine
+taken_none : (S seen : ℕ) → stream_taken S seen [] ≡ none_taken (Ok tt)
 unfolding stream_taken
 taken_none S seen = refl
 
@@ -127,11 +127,11 @@ module _ (S seen : ℕ) (a b : List ℕ) (front : whole_bars S a ≡ true) (back
     pub words : length a ≡ (stream_taken S seen a).done * bar_words S
     pub both : stream_taken S seen (a ++ b) ≡ more_taken (stream_taken S seen a).done (stream_taken S (seen + (stream_taken S seen a).done) b)
 
-  taken_behind_fine : judged (stream_lines S seen a) ≡ Fine → (stream_taken S seen a).verdict ≡ Fine → Behind
+  taken_behind_fine : judged (stream_lines S seen a) ≡ Ok tt → (stream_taken S seen a).verdict ≡ Ok tt → Behind
   taken_behind_fine fine all =
       let known = stream_fine S seen a fine in
       let own : stream_taken S seen a ≡ stream_takes S seen (bars_of S a) = taken_is S seen a fine in
-      let verdict : (stream_takes S seen (bars_of S a)).verdict ≡ Fine = rw own at all in
+      let verdict : (stream_takes S seen (bars_of S a)).verdict ≡ (Ok tt) = rw own at all in
       let many : (stream_taken S seen a).done ≡ length (bars_of S a) = rw own (takes_all S (bars_of S a) seen verdict) in
       let long : length (bars_of S a) ≡ length a / bar_words S = records_length (length a / bar_words S) (bar_words S) a in
       let early = takes_early S (bars_of S a) seen known.1 verdict in
@@ -144,11 +144,11 @@ module _ (S seen : ℕ) (a b : List ℕ) (front : whole_bars S a ≡ true) (back
             ∙ rw (both_bars, many, rest) (takes_behind S (bars_of S a) (bars_of S b) seen verdict);
       }
 
-pub taken_behind : (S seen : ℕ) (a b : List ℕ) (front : whole_bars S a ≡ true) (back : whole_bars S b ≡ true) → (stream_taken S seen a).verdict ≡ Fine
+pub taken_behind : (S seen : ℕ) (a b : List ℕ) (front : whole_bars S a ≡ true) (back : whole_bars S b ≡ true) → (stream_taken S seen a).verdict ≡ Ok tt
     → Behind S seen a b front back
 taken_behind S seen a b front back all = go (judged (stream_lines S seen a)) refl
   where
-    none : (a : List ℕ) (why : Refusal) (front : whole_bars S a ≡ true) → judged (stream_lines S seen a) ≡ Bad why → (stream_taken S seen a).verdict ≡ Fine
+    none : (a : List ℕ) (why : Refusal) (front : whole_bars S a ≡ true) → judged (stream_lines S seen a) ≡ Err why → (stream_taken S seen a).verdict ≡ Ok tt
         → Behind S seen a b front back
     none [] why front bad all =
         let here : seen + 0 ≡ seen = omega arith in
@@ -158,11 +158,11 @@ taken_behind S seen a b front back all = go (judged (stream_lines S seen a)) ref
     none (x ∷ a) why front bad all = never (rw (taken_not S seen x a why bad) at all)
 
     go : (v : Verdict) → judged (stream_lines S seen a) ≡ v → Behind S seen a b front back
-    go Fine e = taken_behind_fine S seen a b front back e all
-    go (Bad why) e = none a why front e all
+    go (Ok tt) e = taken_behind_fine S seen a b front back e all
+    go (Err why) e = none a why front e all
 
 -- and of two of which the first ends it
-pub taken_ended : (S seen : ℕ) (a b : List ℕ) → whole_bars S a ≡ true → whole_bars S b ≡ true → (why : Refusal) → (stream_taken S seen a).verdict ≡ Bad why
+pub taken_ended : (S seen : ℕ) (a b : List ℕ) → whole_bars S a ≡ true → whole_bars S b ≡ true → (why : Refusal) → (stream_taken S seen a).verdict ≡ Err why
     → stream_taken S seen (a ++ b) ≡ stream_taken S seen a
 taken_ended S seen [] b front back why e = never (sym (rw (taken_none S seen) at e))
 taken_ended S seen (x ∷ a) b front back why e = go (judged (stream_lines S seen (x ∷ a))) refl
@@ -171,8 +171,8 @@ taken_ended S seen (x ∷ a) b front back why e = go (judged (stream_lines S see
     alike = lines_alike S seen (x ∷ a ++ b) (x ∷ a) (whole_both S seen (x ∷ a) b front back) front
 
     go : (v : Verdict) → judged (stream_lines S seen (x ∷ a)) ≡ v → stream_taken S seen (x ∷ a ++ b) ≡ stream_taken S seen (x ∷ a)
-    go (Bad r) f = taken_not S seen x (a ++ b) r (alike ∙ f) ∙ sym (taken_not S seen x a r f)
-    go Fine f =
+    go (Err r) f = taken_not S seen x (a ++ b) r (alike ∙ f) ∙ sym (taken_not S seen x a r f)
+    go (Ok tt) f =
         let own : stream_taken S seen (x ∷ a) ≡ stream_takes S seen (bars_of S (x ∷ a)) = taken_is S seen (x ∷ a) f in
         taken_is S seen (x ∷ a ++ b) (alike ∙ f)
         ∙ rw (both_bars S seen (x ∷ a) b front back, own) (takes_ended S (bars_of S (x ∷ a)) (bars_of S b) seen why (rw own at e))

@@ -1,22 +1,22 @@
 -- The bars that a stream takes: each is whole, and 11 accepts it for the stream's slots.
-use Rattle.std.specs.Prelude.{ℕ, zero, suc, ◌+◌, ◌-◌, ◌*◌, ◌/◌, ◌≤◌, ◌≡◌, refl, Bool, true, false, cond, List, [], ◌∷◌, eqb, length, take, drop}
+use Rattle.std.specs.Prelude.{ℕ, zero, suc, ◌+◌, ◌-◌, ◌*◌, ◌/◌, ◌≤◌, ◌≡◌, refl, Bool, true, false, cond, List, [], ◌∷◌, eqb, length, take, drop, Err, Ok}
 use Rattle.words.specs.Prelude.{◌∙◌, arith}
 use Rattle.words.specs.Prelude.{length-drop, length-take-le}
 use Rattle.words.specs.{Laws.Records.records_fit, Limits.bar_words}
-use Rattle.refusals.specs.{declared.verdict.Verdict.Verdict, declared.verdict.Verdict.TheVariants.Fine, declared.verdict.Verdict.TheVariants.Bad}
 use Rattle.refusals.specs.{Bar.bar_lines, Laws.Lines.first_holds, Lines.judged}
 use Rattle.engine.specs.{Day.in_records, Laws.Days.records_next}
 use Rattle.accounts.specs.{Stream.stream_lines, Stream.stream_bar_lines, Stream.none_taken, Stream.one_more_taken, Stream.taken_unless, Stream.stream_takes}
 use Rattle.accounts.specs.{Stream.stream_taken}
 use Rattle.beside.specs.{OwnFine.fine_anywhere}
+use Rattle.refusals.specs.{Lines.Verdict}
 
 -- each is a bar of S slots that 11 accepts, whatever the bars seen
 unfoldable pub AllFine : ℕ → List (List ℕ) → Type 0
 AllFine S [] = Unit
-AllFine S (bar ∷ bars) = (length bar ≡ bar_words S) × ((seen : ℕ) → judged (bar_lines S bar seen) ≡ Fine) × AllFine S bars
+AllFine S (bar ∷ bars) = (length bar ≡ bar_words S) × ((seen : ℕ) → judged (bar_lines S bar seen) ≡ Ok tt) × AllFine S bars
 
 -- a bar that the stream takes
-bar_fine : (S seen : ℕ) (bar : List ℕ) → judged (stream_bar_lines S seen bar) ≡ Fine → (seen' : ℕ) → judged (bar_lines S bar seen') ≡ Fine
+bar_fine : (S seen : ℕ) (bar : List ℕ) → judged (stream_bar_lines S seen bar) ≡ Ok tt → (seen' : ℕ) → judged (bar_lines S bar seen') ≡ Ok tt
 unfolding stream_bar_lines
 bar_fine S seen bar h seen' = fine_anywhere S bar seen seen' (first_holds _ _ h).1
 
@@ -35,8 +35,8 @@ takes_fine S w (suc n) seen ws wide h =
 
     go : (v : Verdict) → judged (stream_bar_lines S seen (take w ws)) ≡ v → AllFine S (in_records later w (drop w ws))
         → AllFine S (in_records (taken_unless v (one_more_taken (stream_takes S (seen + 1) (in_records n w (drop w ws))))).done w ws)
-    go (Bad why) e rest = tt
-    go Fine e rest =
+    go (Err why) e rest = tt
+    go (Ok tt) e rest =
         let back : later + 1 - 1 ≡ later = omega arith in
         rw (records_next (later + 1) w ws (omega arith), back)
         (length-take-le w ws (fewer n w (length ws) h).0 ∙ wide, bar_fine S seen (take w ws) e, rest)
@@ -49,7 +49,7 @@ taken_fine S seen bars = go (eqb (length bars) 0) (judged (stream_lines S seen b
     all : List (List ℕ)
     all = in_records (length bars / bar_words S) (bar_words S) bars
 
-    go : (b : Bool) (v : Verdict) → AllFine S (in_records (cond b (none_taken Fine) (taken_unless v (stream_takes S seen all))).done (bar_words S) bars)
+    go : (b : Bool) (v : Verdict) → AllFine S (in_records (cond b (none_taken (Ok tt)) (taken_unless v (stream_takes S seen all))).done (bar_words S) bars)
     go true v = tt
-    go false (Bad why) = tt
-    go false Fine = takes_fine S (bar_words S) (length bars / bar_words S) seen bars refl (records_fit (length bars) (bar_words S) (omega arith) _ (omega arith))
+    go false (Err why) = tt
+    go false (Ok tt) = takes_fine S (bar_words S) (length bars / bar_words S) seen bars refl (records_fit (length bars) (bar_words S) (omega arith) _ (omega arith))

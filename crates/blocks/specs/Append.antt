@@ -1,13 +1,13 @@
 -- An append and its refusals. Definitions only.
-use Rattle.std.specs.Prelude.{ℕ, ◌+◌, ◌*◌, ◌/◌, Bool, cond, ◌&&◌, List, ltb, leb, length, set}
-use Rattle.words.specs.{Limits.most_count, Outcome.refusal}
+use Rattle.std.specs.Prelude.{ℕ, ◌+◌, ◌*◌, ◌/◌, Bool, cond, ◌&&◌, List, ltb, leb, length, set, Err, Ok, Result}
+use Rattle.words.specs.{Limits.most_count}
 use Rattle.floats.specs.{Floats.float_of, Floats.finite}
-use Rattle.blocks.specs.{declared.append.Added.Added, declared.append.Added.TheVariants.Held, declared.append.Added.TheVariants.Refused}
 use Rattle.blocks.specs.{Blocks.block_bars, Blocks.block_words, Blocks.put, Blocks.grown}
+use Rattle.words.specs.{declared.refusal.Refusal.Refusal}
 
 -- what an append answers, and both rooms as it leaves them
 pub record Append : Type 0 where
-  pub answer : Added
+  pub answer : Result ℕ Refusal
   pub closes : List ℕ
   pub blocks : List ℕ
 
@@ -22,16 +22,16 @@ place_for_block held blocks = leb (block_words * (held / block_bars) + block_wor
 -- the close as bar `held`, and its block
 abbrev pub kept : ℕ → ℕ → List ℕ → List ℕ → Append
 kept held close closes blocks = record {
-  answer = Held (held + 1);
+  answer = Ok (held + 1);
   closes = set closes held close;
   blocks = put blocks (held / block_bars) (grown blocks held close);
 }
 
-abbrev pub refused : ℕ → ℕ → Added
-refused number place = Refused (refusal number place)
+abbrev pub refused : ℕ → ℕ → Result ℕ Refusal
+refused number place = Err (refusal number place)
 
 -- a refusal changes neither room
-abbrev pub unchanged : Added → List ℕ → List ℕ → Append
+abbrev pub unchanged : Result ℕ Refusal → List ℕ → List ℕ → Append
 unchanged answer closes blocks = record { answer = answer; closes = closes; blocks = blocks }
 
 -- "10 if an append has no place, then 11 at the bars held if its close is not finite"

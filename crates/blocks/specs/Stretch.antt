@@ -1,8 +1,9 @@
 -- A question and its refusals. Definitions only.
-use Rattle.std.specs.Prelude.{ℕ, ◌+◌, ◌-◌, ◌*◌, ◌/◌, Bool, cond, ◌&&◌, List, ltb, leb, length}
-use Rattle.words.specs.{Limits.most_count, Outcome.refusal}
-use Rattle.blocks.specs.{declared.stretch.Found.Found, declared.stretch.Found.TheVariants.Best, declared.stretch.Found.TheVariants.Refused}
+use Rattle.std.specs.Prelude.{ℕ, ◌+◌, ◌-◌, ◌*◌, ◌/◌, Bool, cond, ◌&&◌, List, ltb, leb, length, Err, Ok, Result}
+use Rattle.words.specs.{Limits.most_count}
 use Rattle.blocks.specs.{Blocks.block_bars, Blocks.block_words, Reads.reads, Reads.told}
+use Rattle.blocks.specs.{declared.best.Best.Best}
+use Rattle.words.specs.{declared.refusal.Refusal.Refusal}
 
 -- "13 | counts .. exceed the rooms or 4,294,967,295": each bar has its close, and its block
 abbrev pub holds : ℕ → List ℕ → List ℕ → Bool
@@ -13,12 +14,12 @@ holds held closes blocks =
 abbrev pub exists : ℕ → ℕ → ℕ → Bool
 exists held first last = leb first last && (ltb first held && ltb last held)
 
-abbrev pub refused : ℕ → Found
-refused number = Refused (refusal number 0)
+abbrev pub refused : ℕ → Result Best Refusal
+refused number = Err (refusal number 0)
 
 -- "The highest and lowest close between two bars", both included, by what a question over them reads.
-unfoldable pub stretched : ℕ → ℕ → ℕ → List ℕ → List ℕ → Found
+unfoldable pub stretched : ℕ → ℕ → ℕ → List ℕ → List ℕ → Result Best Refusal
 stretched held first last closes blocks =
     cond (holds held closes blocks)
-    (cond (exists held first last) (Best (told closes blocks (reads first (last + 1 - first)))) (refused 18))
+    (cond (exists held first last) (Ok (told closes blocks (reads first (last + 1 - first)))) (refused 18))
     (refused 13)

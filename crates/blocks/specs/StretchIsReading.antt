@@ -1,28 +1,29 @@
 -- THE STATEMENT of request 10: "A question .. gives what reading every close gives: the numbers and the earliest bar of each. This holds for rooms
 -- filled from empty by appending alone, over any number of bars that fit." Assumes nothing.
-use Rattle.std.specs.Prelude.{ℕ, zero, suc, ◌+◌, ◌-◌, ◌*◌, ◌/◌, ◌<◌, ◌≤◌, ◌≡◌, refl, List, [], ◌∷◌, ◌++◌, get_or, length, set}
+use Rattle.std.specs.Prelude.{ℕ, zero, suc, ◌+◌, ◌-◌, ◌*◌, ◌/◌, ◌<◌, ◌≤◌, ◌≡◌, refl, List, [], ◌∷◌, ◌++◌, get_or, length, set, Ok, Result}
 use Rattle.words.specs.Prelude.{sym, ap, subst, ◌∙◌, ℕ_discrete, arith, lt_of_le-ne}
 use Rattle.words.specs.Prelude.{length-append, length-set, List·get_or-append, get_or-set_same, get_or-set_other, get_or-append_seam}
 use Rattle.words.specs.{Limits.most_count}
-use Rattle.blocks.specs.{declared.append.Added.TheVariants.Held, declared.stretch.Found.Found, declared.best.Best.Best, Reading.one, Reading.join}
+use Rattle.blocks.specs.{declared.best.Best.Best, Reading.one, Reading.join}
 use Rattle.blocks.specs.{Reading.reading, Reading.HighAndLow, Reading.Number, Append.Append, Append.appended, Append.kept, Reads.reads, Reads.told}
 use Rattle.blocks.specs.{Stretch.stretched, Laws.Append.Appendable, Laws.Append.appended_has, Laws.Append.is_taken, Laws.Append.finite_number}
 use Rattle.blocks.specs.{Laws.Stretch.answers, Laws.Earliest.reading_is, Laws.Kept.BlocksKept, Laws.Kept.appended_kept, Laws.Kept.empty_kept}
 use Rattle.blocks.specs.{Laws.Kept.told_is}
+use Rattle.words.specs.{declared.refusal.Refusal.Refusal}
 
 -- "rooms filled from empty by appending alone": the closes that were appended, in order, the bars held and both rooms. Empty is no bar held, whatever the
 -- rooms hold; a close more is an append that is not refused.
 pub data Filled : List ℕ → ℕ → List ℕ → List ℕ → Type 0 where
   empty : (closes blocks : List ℕ) → Filled [] 0 closes blocks
   then : {given closes blocks : List ℕ} {held : ℕ} → Filled given held closes blocks → (close : ℕ)
-      → (appended held close closes blocks).answer ≡ Held (held + 1)
+      → (appended held close closes blocks).answer ≡ Ok (held + 1)
       → Filled (given ++ (close ∷ [])) (held + 1) (appended held close closes blocks).closes (appended held close closes blocks).blocks
 
 -- what a question over bars `first` to `last` of the closes given is told
-pub record IsReading (given : List ℕ) (first last : ℕ) (answer : Found) : Type 0 where
+pub record IsReading (given : List ℕ) (first last : ℕ) (answer : Result Best Refusal) : Type 0 where
   pub best : Best
   -- it is not refused ..
-  pub found : answer ≡ Found.Best best
+  pub found : answer ≡ Ok best
   -- .. and "gives what reading every close gives"
   pub read : best ≡ reading given first (last - first)
   -- "the highest and lowest close .. and the earliest bar of each"

@@ -12,13 +12,6 @@ const CLOSES_ROOM: u64 = 12;
 
 const BLOCKS_ROOM: u64 = 13;
 
-// The bars held now, or why there is no bar more.
-#[derive(Clone, Copy)]
-pub enum Added {
-    Held(usize),
-    Refused(Refusal),
-}
-
 // The best of the block that a bar falls into, with it: begun by its first bar, whatever the room held, and kept up by each one after it.
 #[tactic(auto, unfolding(crate::specs::Blocks::grown))]
 fn grown(blocks: &[u64], bar: usize, close: u64) -> Best
@@ -46,30 +39,30 @@ fn put_bar(closes: &mut [u64], blocks: &mut [u64], held: usize, close: u64)
 }
 
 // Refused: the number and its place.
-fn refused(number: u64, place: u64) -> Added
+fn refused(number: u64, place: u64) -> Result<usize, Refusal>
     ensures { result ≡ Rattle.blocks.specs.Append.refused number place }
 {
-    Added::Refused(Refusal { number, place })
+    Err(Refusal { number, place })
 }
 
 // Appends a close to the bars held: 10 where a room has no place for it, then 11 where it is not finite.
 #[tactic(auto, unfolding(crate::specs::Append::appended))]
-pub fn append(held: usize, close: u64, closes: &mut [u64], blocks: &mut [u64]) -> Added
+pub fn append(held: usize, close: u64, closes: &mut [u64], blocks: &mut [u64]) -> Result<usize, Refusal>
     ensures { appended held close closes.old blocks.old
         ≡ record { answer = result; closes = closes.new; blocks = blocks.new } }
 {
     if closes.len() <= held {
-        return refused(10, CLOSES_ROOM);
+        return Err(Refusal::Room(CLOSES_ROOM));
     }
     if (MOST_COUNT as usize) <= held {
-        return refused(10, CLOSES_ROOM);
+        return Err(Refusal::Room(CLOSES_ROOM));
     }
     if blocks.len() < BLOCK_WORDS * (held / BLOCK_BARS) + BLOCK_WORDS {
-        return refused(10, BLOCKS_ROOM);
+        return Err(Refusal::Room(BLOCKS_ROOM));
     }
     if !floats::word_is_finite(close) {
-        return refused(11, held as u64);
+        return Err(Refusal::Bar(held as u64));
     }
     put_bar(closes, blocks, held, close);
-    Added::Held(held + 1)
+    Ok(held + 1)
 }

@@ -7,18 +7,11 @@ use crate::question::ask;
 use words::limits::MOST_COUNT;
 use words::refusal::Refusal;
 
-// The best of the bars asked for, or why there is none.
-#[derive(Clone, Copy)]
-pub enum Found {
-    Best(Best),
-    Refused(Refusal),
-}
-
 // Refused: a number, at 0.
-fn refused(number: u64) -> Found
+fn refused(number: u64) -> Result<Best, Refusal>
     ensures { result ≡ Stretch.refused number }
 {
-    Found::Refused(Refusal { number, place: 0 })
+    Err(Refusal { number, place: 0 })
 }
 
 // Whether both rooms hold so many bars, and these can be counted.
@@ -39,14 +32,14 @@ fn exists(held: usize, first: usize, last: usize) -> bool
 
 // The high and the low of the bars from `first` to `last`: 13 where the rooms do not hold the bars, then 18 where these are none.
 #[tactic(auto, unfolding(crate::specs::Stretch::stretched))]
-pub fn stretch(held: usize, first: usize, last: usize, closes: &[u64], blocks: &[u64]) -> Found
+pub fn stretch(held: usize, first: usize, last: usize, closes: &[u64], blocks: &[u64]) -> Result<Best, Refusal>
     ensures { result ≡ Stretch.stretched held first last closes.now blocks.now }
 {
     if !holds(held, closes, blocks) {
-        return refused(13);
+        return Err(Refusal::Records);
     }
     if !exists(held, first, last) {
-        return refused(18);
+        return Err(Refusal::Stretch);
     }
-    Found::Best(ask(closes, blocks, first, last + 1 - first))
+    Ok(ask(closes, blocks, first, last + 1 - first))
 }

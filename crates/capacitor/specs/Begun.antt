@@ -1,8 +1,8 @@
 -- What a caller sees to before the first bar, in the words of the C calls. Definitions only.
-use Rattle.std.specs.Prelude.{ℕ, ◌≤◌, ◌≡◌, List, take}
+use Rattle.std.specs.Prelude.{ℕ, ◌≤◌, ◌≡◌, List, take, Ok}
 use Rattle.table.specs.{Bytes.Bytes, Header.slots}
 use Rattle.records.specs.{Lent.Lists, Lent.row_places, Settings.settings_of}
-use Rattle.refusals.specs.{declared.verdict.Verdict.TheVariants.Fine, Lines.judged, Settings.setting_lines}
+use Rattle.refusals.specs.{Lines.judged, Settings.setting_lines}
 use Rattle.restart.specs.{Laws.Reached64.Words64}
 use Rattle.stepping.specs.{Bars.StepLent}
 use Rattle.capi.specs.{Tables.DepthLent, Tables.depth_call, Tables.TranslateLent, Tables.translate_call, Fresh.fresh_call}
@@ -25,7 +25,7 @@ pub record Begun (table settings : List ℕ) (ls : Lists) (box : StepLent) : Typ
   pub slots : (settings_of settings).slots ≡ slots table
   -- the settings are 64-bit words, and 12 lets them pass
   pub words : Words64 settings
-  pub twelve : judged (setting_lines (settings_of settings)) ≡ Fine
+  pub twelve : judged (setting_lines (settings_of settings)) ≡ Ok tt
   -- the lists are what `ysh_translate` writes for the four trees
   pub entry : Translation table 0 ls.entry
   pub «exit» : Translation table 1 ls.«exit»

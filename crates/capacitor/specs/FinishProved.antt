@@ -1,16 +1,14 @@
 -- Finish after losses, proved: the words that `ysh_finish` leaves are those of the engine's end, of which restart says what its points and trades are.
-use Rattle.std.specs.Prelude.{ℕ, ◌+◌, ◌-◌, ◌*◌, ◌/◌, ◌%◌, ◌≤◌, ◌≡◌, refl, cond, List, [], ◌∷◌, ◌++◌, ltb, Float, length, set}
+use Rattle.std.specs.Prelude.{ℕ, ◌+◌, ◌-◌, ◌*◌, ◌/◌, ◌%◌, ◌≤◌, ◌≡◌, refl, cond, List, [], ◌∷◌, ◌++◌, ltb, Float, length, set, Err, None, Ok, Option, Some}
 use Rattle.words.specs.Prelude.{flat_map}
 use Rattle.words.specs.Prelude.{sym, ap, subst, ◌∙◌, append-nil, mul-div_cancel}
 use Rattle.words.specs.Prelude.{arith, eq-eqb, le-leb, lt-ltb}
 use Rattle.words.specs.{Limits.metric_words, Limits.point_words, Limits.trade_words, Outcome.gives, Words.word}
 use Rattle.floats.specs.{Floats.word_of, Floats.float_of}
 use Rattle.portfolio.specs.{Portfolio.equity, Trade.words_of_trade}
-use Rattle.execution.specs.{declared.fills.Exit.Exit, declared.fills.Exit.TheVariants.NoExit, declared.fills.Exit.TheVariants.Exited}
 use Rattle.metrics.specs.{Figures.metrics_of, Figures.computed, Records.equity_of, Records.pnls_of, Records.whole}
 use Rattle.records.specs.{declared.settings.Settings.Settings, declared.state.Position.Position, declared.state.State.State, Lent.Lists, Lent.Rooms}
 use Rattle.records.specs.{Settings.settings_of, StateWords.state_of, Laws.RoundTrip.Floats64, Laws.RoundTrip.state_kept}
-use Rattle.refusals.specs.{declared.verdict.Verdict.Verdict, declared.verdict.Verdict.TheVariants.Fine, declared.verdict.Verdict.TheVariants.Bad}
 use Rattle.refusals.specs.{Judgement.finish_judged, Lines.judged}
 use Rattle.engine.specs.{Account.leaving, Books.words_of_point, Books.trades_of, Books.held_points, Books.held_trades, Finish.last_exit, Finish.remarked}
 use Rattle.engine.specs.{Finish.end_state, Finish.ended, Laws.Runs.run_none, Run.Run, Run.run_over, Whole.Ledger, Whole.whole_end}
@@ -23,6 +21,8 @@ use Rattle.capi.specs.{Figures.metrics_gives, Figures.metrics_call, Joined.IsEnd
 use Rattle.capacitor.specs.{Capacitor.now, Capacitor.unbroken, Finish.finish_now, Finish.box_finished, Finish.last_kept, Finish.GivesWhole}
 use Rattle.capacitor.specs.{Finish.FinishAfterLosses, Finish.FinishTheorem, Loss.Loss, Loss.points_in, Loss.trades_in, Loss.points_before, Loss.trades_before}
 use Rattle.capacitor.specs.{Laws.EngineNow.EngineNow, Laws.EngineNow.engine_now}
+use Rattle.refusals.specs.{Lines.Verdict}
+use Rattle.portfolio.specs.{declared.Closed.Closed}
 
 -- ---- `ysh_metrics` over whole records
 
@@ -31,7 +31,7 @@ computed-whole : (initial : Float) (points trades : List ℕ) → length points 
 unfolding computed whole
 computed-whole initial points trades p t = rw (eq-eqb _ _ p, eq-eqb _ _ t)
 
-metrics_room : (room : List ℕ) → metric_words ≤ length room → judged (metric_lines room) ≡ Fine
+metrics_room : (room : List ℕ) → metric_words ≤ length room → judged (metric_lines room) ≡ Ok tt
 unfolding judged metric_lines
 metrics_room room nine = rw (le-leb _ _ nine)
 
@@ -55,18 +55,18 @@ metrics_whole settings w points trades p t room nine =
 
 -- ---- the last point that was kept
 
-kept_by : (x : Exit) (points : List ℕ) (k : ℕ) → length points ≡ k * point_words → (p : Position) (close : Float)
+kept_by : (x : Option Closed) (points : List ℕ) (k : ℕ) → length points ≡ k * point_words → (p : Position) (close : Float)
     → cond (ltb 0 (length (trades_of x))) (set points (length points - 1) (word_of (equity (leaving p x).portfolio close))) points
     ≡ remarked points (length points / point_words) x close
 unfolding trades_of leaving remarked
-kept_by NoExit points k long p close = refl
-kept_by (Exited c) [] k long p close = refl
-kept_by (Exited c) (a ∷ points) k long p close =
+kept_by None points k long p close = refl
+kept_by (Some c) [] k long p close = refl
+kept_by (Some c) (a ∷ points) k long p close =
     let many : length (a ∷ points) / point_words ≡ k = ap (λ (n : ℕ). n / point_words) long ∙ mul-div_cancel k {n = point_words} (omega arith) in
     let here : length (a ∷ points) - 1 ≡ (k - 1) * point_words + 1 = omega (arith, long) in
     rw (many, here, lt-ltb 0 k (omega (arith, long)))
 
-last_kept_lem : (s : Settings) (t : State) (m : Rooms) (points : List ℕ) (k : ℕ) → length points ≡ k * point_words → finish_judged s t m ≡ Fine
+last_kept_lem : (s : Settings) (t : State) (m : Rooms) (points : List ℕ) (k : ℕ) → length points ≡ k * point_words → finish_judged s t m ≡ Ok tt
     → t.counts.trades ≡ 0 → last_kept points (ended s t m).result.state ≡ last_remarked s t points
 unfolding last_kept ended end_state
 last_kept_lem s t m points k long fine none =
@@ -93,12 +93,12 @@ module _ (table settings : List ℕ) (ls : Lists) (box : StepLent) (losses : Lis
   end : IsEnd (finish_now settings ls box losses bars metrics) (finish_judged s e.state e.rooms) (ended s e.state e.rooms) n.room metrics
   end = rw n.is (ends_in_words settings n.room n.set n.long e.state floats_now e.rooms metrics nine)
 
-  fine : finish_judged s e.state e.rooms ≡ Fine
+  fine : finish_judged s e.state e.rooms ≡ Ok tt
   fine = go (finish_judged s e.state e.rooms) refl (sym end.answer ∙ zero)
     where
-      go : (v : Verdict) → finish_judged s e.state e.rooms ≡ v → answer_of v ≡ 0 → v ≡ Fine
-      go Fine h z = refl
-      go (Bad r) h z = absurd (refused_word r (finish_small s e.state e.rooms r h) (unfold answer_of in z))
+      go : (v : Verdict) → finish_judged s e.state e.rooms ≡ v → answer_of v ≡ 0 → v ≡ Ok tt
+      go (Ok tt) h z = refl
+      go (Err r) h z = absurd (refused_word r (finish_small s e.state e.rooms r h) (unfold answer_of in z))
 
   ends : EndsAsNever s w e (points_before settings ls box losses) (trades_before settings ls box losses)
   ends = ends_after_losses s w e (points_before settings ls box losses) (trades_before settings ls box losses) n.never n.ready.sound fine

@@ -1,9 +1,9 @@
 -- THE IMAGE IN PARTS. The capacitor theorem speaks of the image that `ysh_dump` leaves in a buffer; a driver without memory for it makes each page by
 -- `ysh_dump_part`. Call after call gives that very image, so what such a driver programs is what the theorem says is programmed.
-use Rattle.std.specs.Prelude.{ℕ, ◌≤◌, ◌≡◌, List, length, take, replicate}
+use Rattle.std.specs.Prelude.{ℕ, ◌≤◌, ◌≡◌, List, length, take, replicate, Ok}
 use Rattle.words.specs.Prelude.{sym, ◌∙◌, arith, le-leb, length-replicate}
 use Rattle.records.specs.{declared.settings.Settings.Settings, declared.state.State.State, Lent.Lists, Settings.settings_of, StateWords.state_of}
-use Rattle.refusals.specs.{declared.verdict.Verdict.TheVariants.Fine, Laws.Lines.both_fine, Lines.judged, Rooms.room_lines, Settings.setting_lines}
+use Rattle.refusals.specs.{Laws.Lines.both_fine, Lines.judged, Rooms.room_lines, Settings.setting_lines}
 use Rattle.images.specs.{Layout.dump_bytes}
 use Rattle.dumpable.specs.{Refused.area_lines, Refused.dump_lines, Refused.dump_judged, Laws.Fine.dump_fine}
 use Rattle.dump.specs.{Laws.Parts.total}
@@ -19,12 +19,12 @@ judged_alike : (s : Settings) (t : State) (rows a b : List ℕ) → dump_bytes s
 unfolding dump_judged dump_lines area_lines
 judged_alike s t rows a b p q = rw (le-leb _ _ p, le-leb _ _ q)
 
-settings_fine : (s : Settings) (t : State) (rows area : List ℕ) → dump_judged s t rows area ≡ Fine → judged (setting_lines s) ≡ Fine
+settings_fine : (s : Settings) (t : State) (rows area : List ℕ) → dump_judged s t rows area ≡ Ok tt → judged (setting_lines s) ≡ Ok tt
 unfolding dump_judged dump_lines
 settings_fine s t rows area h = (both_fine (setting_lines s) _ (both_fine (area_lines s area) _ (both_fine (room_lines s rows) _ h).1).1).0
 
-fine_answers : (settings state rows area : List ℕ) (from upto : ℕ) → judged (lent_lines settings state rows) ≡ Fine
-    → dump_judged (settings_of settings) (state_of state) rows area ≡ Fine → (dump_call settings state rows area from upto).answer ≡ 0
+fine_answers : (settings state rows area : List ℕ) (from upto : ℕ) → judged (lent_lines settings state rows) ≡ Ok tt
+    → dump_judged (settings_of settings) (state_of state) rows area ≡ Ok tt → (dump_call settings state rows area from upto).answer ≡ 0
 unfolding dump_call call_of unless_bad dump_gives
 fine_answers settings state rows area from upto lines fine = rw (lines, fine)
 
@@ -39,7 +39,7 @@ parts_are_image settings state rows buffer done parts enough =
     let area = replicate {A = ℕ} (size_of settings) 0 in
     let long : length area ≡ size_of settings = length-replicate {A = ℕ} (size_of settings) 0 in
     let place = (dump_fine s t rows buffer d.fine).place in
-    let fine : dump_judged s t rows area ≡ Fine = judged_alike s t rows area buffer (omega (arith, long)) place ∙ d.fine in
+    let fine : dump_judged s t rows area ≡ (Ok tt) = judged_alike s t rows area buffer (omega (arith, long)) place ∙ d.fine in
     let size = long ∙ sym (dump_bytes_lem s (settings_fine s t rows buffer d.fine)).0 in
     let zeros : (dump_call settings state rows area 0 (length area)).answer ≡ 0 = fine_answers settings state rows area 0 (length area) d.lines fine in
     parts_are_dump settings state rows area size zeros parts (omega (arith, long, enough)) ∙ dump_is_image settings state rows area size zeros ∙ sym d.image

@@ -1,11 +1,11 @@
 -- THE CAPACITOR THEOREM, proved: the box after its losses is the engine's, of which restart says that it is as if its supply had never failed; and what a
 -- plan leaves, cut anywhere, is refused or is the whole image.
-use Rattle.std.specs.Prelude.{ℕ, ◌+◌, ◌≤◌, ◌≡◌, List, [], ◌∷◌, ◌++◌, length, take}
+use Rattle.std.specs.Prelude.{ℕ, ◌+◌, ◌≤◌, ◌≡◌, List, [], ◌∷◌, ◌++◌, length, take, Ok}
 use Rattle.words.specs.Prelude.{sym, ap, subst, ◌∙◌, arith}
 use Rattle.words.specs.{Limits.state_words, Limits.most_count}
 use Rattle.records.specs.{Lent.Lists, Lent.Rooms, Lent.row_places, Lent.point_places, Lent.trade_places, Settings.settings_of, State.fresh_state}
 use Rattle.records.specs.{Laws.RoundTrip.Floats64, Laws.RoundTrip.state_kept, Laws.RoundTrip.fresh_floats}
-use Rattle.refusals.specs.{declared.verdict.Verdict.TheVariants.Fine, Lines.judged, Settings.setting_lines}
+use Rattle.refusals.specs.{Lines.judged, Settings.setting_lines}
 use Rattle.engine.specs.{Run.Run, Run.run_over}
 use Rattle.runs.specs.{NeverFull.PlacesFor, Laws.Floats.run_floats}
 use Rattle.images.specs.{Layout.dump_bytes, Layout.image_of}
@@ -23,7 +23,7 @@ unfolding dump_bytes
 header_long settings = omega arith
 
 module _ (table settings : List ℕ) (ls : Lists) (box : StepLent) (losses : List Loss) (bars : List (List ℕ))
-    (n : EngineNow table settings ls box losses bars) (all : Restored settings ls box losses) (twelve : judged (setting_lines (settings_of settings)) ≡ Fine)
+    (n : EngineNow table settings ls box losses bars) (all : Restored settings ls box losses) (twelve : judged (setting_lines (settings_of settings)) ≡ Ok tt)
     (few : length (bars_before losses ++ bars) ≤ most_count) where
   abbrev run : List (List ℕ) → Run
   run bs = run_over (settings_of settings) ls n.state n.rooms bs

@@ -1,10 +1,11 @@
 -- The steps that a translation writes lie within its room.
+use Rattle.std.specs.Prelude.{Ok}
 use Rattle.words.specs.Prelude.{ℕ, ◌+◌, ◌*◌, ◌≤◌, ◌≡◌, ap, ◌∙◌, List, ◌++◌, arith, ltb, length, drop, length-append}
 use Rattle.table.specs.{declared.trees.Tree.Tree, Checked.checked, Header.tree_number}
-use Rattle.steps.specs.{declared.translated.Translated.TheVariants.Writes, Bytes.bytes_of, Laws.Encoding.steps_long, Demand.counted, Translating.steps_of}
+use Rattle.steps.specs.{Bytes.bytes_of, Laws.Encoding.steps_long, Demand.counted, Translating.steps_of}
 use Rattle.steps.specs.{Translating.room_for, Translating.writes_or, Translating.translates, Translating.room_after, Translating.room_left}
 
-pub writes_within : (t : List ℕ) (tree : Tree) (room after : List ℕ) (n : ℕ) → translates t tree room ≡ Writes n → after ≡ room_left t tree room
+pub writes_within : (t : List ℕ) (tree : Tree) (room after : List ℕ) (n : ℕ) → translates t tree room ≡ Ok n → after ≡ room_left t tree room
     → 16 * n ≤ length after
 unfolding translates writes_or room_left room_after
 writes_within t tree room after n e left =

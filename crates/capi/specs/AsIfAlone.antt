@@ -1,10 +1,9 @@
 -- Request 14: "An account's results must be those it would have alone on the accepted bars and its own slots, whatever the others' tables say. An account that
 -- refuses a bar is stopped at it, with number and place, while the others go on; a bar refused with 11 changes and stops none."
-use Rattle.std.specs.Prelude.{ℕ, ◌+◌, ◌/◌, ◌%◌, ◌^◌, ◌≡◌, refl, List, [], ◌∷◌}
+use Rattle.std.specs.Prelude.{ℕ, ◌+◌, ◌/◌, ◌%◌, ◌^◌, ◌≡◌, refl, List, [], ◌∷◌, Err, Ok}
 use Rattle.words.specs.Prelude.{arith, eq-eqb, ne_eqb}
 use Rattle.words.specs.{declared.refusal.Refusal.Refusal, Limits.bar_words, Words.word}
 use Rattle.records.specs.{Settings.settings_of}
-use Rattle.refusals.specs.{declared.verdict.Verdict.Verdict, declared.verdict.Verdict.TheVariants.Fine, declared.verdict.Verdict.TheVariants.Bad}
 use Rattle.refusals.specs.{Lines.judged}
 use Rattle.engine.specs.{Day.in_records}
 use Rattle.accounts.specs.{declared.stream.StreamTaken.StreamTaken, Profile.profile_judged, Status.is_stopped, Status.stopped_with, Stream.stream_taken}
@@ -13,6 +12,8 @@ use Rattle.stepping.specs.{WordRun.WordRun, WordRun.calls_over, WordRun.answer_o
 use Rattle.streamed.specs.{Accounts.AccountGiven, Accounts.AccountLent, Accounts.AccountsLent, Accounts.Four, Accounts.alone, Accounts.status_after}
 use Rattle.streamed.specs.{Accounts.rides_by, Accounts.own_bars, Accounts.account_after, Accounts.accounts_lines, Accounts.none_done, Accounts.stream_after}
 use Rattle.streamed.specs.{Accounts.after_bars, Accounts.accounts_by, Accounts.accounts_call}
+use Rattle.refusals.specs.{Lines.Verdict}
+use Rattle.words.specs.{Outcome.number_of, Outcome.place_of}
 
 -- ---- which of the four
 
@@ -50,10 +51,10 @@ pub record AsAlone (S seen : ℕ) (bars : List (List ℕ)) (g : AccountGiven) (a
   -- stopped before: as it was
   pub stopped : (word a.status 0 ≡ 0 → ⊥) → b ≡ a
   -- refused by its table or the profile: that stands in its status, and nothing else has changed
-  pub refused : (bars ≡ [] → ⊥) → word a.status 0 ≡ 0 → (why : Refusal) → profile_judged g.table (settings_of g.settings) S ≡ Bad why
-      → b ≡ record { state = a.state; rooms = a.rooms; status = stopped_with a.status why.number why.place seen }
+  pub refused : (bars ≡ [] → ⊥) → word a.status 0 ≡ 0 → (why : Refusal) → profile_judged g.table (settings_of g.settings) S ≡ Err why
+      → b ≡ record { state = a.state; rooms = a.rooms; status = stopped_with a.status (number_of why) (place_of why) seen }
   -- any other: as alone
-  pub rides : word a.status 0 ≡ 0 → profile_judged g.table (settings_of g.settings) S ≡ Fine → Rode seen a b (alone S g a bars)
+  pub rides : word a.status 0 ≡ 0 → profile_judged g.table (settings_of g.settings) S ≡ Ok tt → Rode seen a b (alone S g a bars)
 
 -- ---- the call
 
@@ -76,17 +77,17 @@ module _ (bars : List ℕ) (g : Four) (l : AccountsLent) where
 
   pub record AsIfAlone : Type 0 where
     -- a room of the call's own that is too small: nothing is done
-    pub short : (why : Refusal) → rooms_judged ≡ Bad why → call ≡ record { answer = answer_word why; lent = none_done l }
+    pub short : (why : Refusal) → rooms_judged ≡ Err why → call ≡ record { answer = answer_word why; lent = none_done l }
     -- the answer is what the stream, or its first bar that is not taken, is refused with; 0 where it takes all
-    pub answer : rooms_judged ≡ Fine → call.answer ≡ answer_of taken.verdict
+    pub answer : rooms_judged ≡ Ok tt → call.answer ≡ answer_of taken.verdict
     -- so many are done, and the stream has so many bars more
-    pub done : rooms_judged ≡ Fine → call.lent.done ≡ taken.done
-    pub stream : rooms_judged ≡ Fine → call.lent.stream ≡ stream_after l.stream seen taken.done
+    pub done : rooms_judged ≡ Ok tt → call.lent.done ≡ taken.done
+    pub stream : rooms_judged ≡ Ok tt → call.lent.stream ≡ stream_after l.stream seen taken.done
     -- each account is as it would be alone, whatever the others are
-    pub account : rooms_judged ≡ Fine → (which : Which)
+    pub account : rooms_judged ≡ Ok tt → (which : Which)
         → AsAlone slots seen (in_records taken.done (bar_words slots) bars) (given_to which g) (lent_to which l) (lent_to which call.lent)
 
-rode : (seen : ℕ) (a : AccountLent) (r : WordRun) → Rode seen a (rides_by Fine seen r a) r
+rode : (seen : ℕ) (a : AccountLent) (r : WordRun) → Rode seen a (rides_by (Ok tt) seen r a) r
 unfolding rides_by status_after
 rode seen a r = record { state = refl; rooms = refl; runs = λ e. rw (eq-eqb r.answer 0 e); stops = λ h. rw (ne_eqb r.answer 0 h) }
 

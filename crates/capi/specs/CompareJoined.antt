@@ -1,34 +1,34 @@
 -- TWO RUNS COMPARED IN C: what stands in the caller's buffer where ysh_compare answers 0, and a buffer that is always enough. Assumes nothing.
-use Rattle.std.specs.Prelude.{ℕ, ◌*◌, ◌/◌, ◌^◌, ◌≤◌, min, ◌≡◌, refl, Bool, true, false, ◌&&◌, List, map, length}
+use Rattle.std.specs.Prelude.{ℕ, ◌*◌, ◌/◌, ◌^◌, ◌≤◌, min, ◌≡◌, refl, Bool, true, false, ◌&&◌, List, map, length, Err, Ok, Result}
 use Rattle.words.specs.Prelude.{sym, ap, ◌∙◌, arith}
 use Rattle.words.specs.{Outcome.gives}
-use Rattle.differences.specs.{declared.compare.Compared.Compared, declared.compare.Compared.TheVariants.Lines}
-use Rattle.differences.specs.{declared.compare.Compared.TheVariants.Refused, Lines.trades, Compared.Comparison, Compared.whole}
+use Rattle.differences.specs.{Lines.trades, Compared.Comparison, Compared.whole}
 use Rattle.differences.specs.{Compared.compared, Truth.lines_in, Truth.Answered, Truth.Equal, Truth.enough_words}
 use Rattle.differences.specs.{Truth.exchanged, Laws.AllAndOnly.stand_there, Laws.AllAndOnly.all_and_only, Laws.Enough.always_written}
 use Rattle.differences.specs.{Laws.Equal.none_exactly, Laws.Exchanged.runs_exchanged}
 use Rattle.replies.specs.{Call.Call, Call.answer_word, Call.call_of}
 use Rattle.capi.specs.{Compare.LineRooms, Compare.compare_gives, Compare.compare_call, Laws.CompareCalls.compare_honest}
+use Rattle.words.specs.{declared.refusal.Refusal.Refusal}
 
 -- what is given was answered as lines: as many as are counted, in the buffer as it is left
-lines_given : (a : Compared) (room : List ℕ) (after : LineRooms) → compare_gives a room ≡ gives after → (a ≡ Lines after.count) × (room ≡ after.lines)
+lines_given : (a : Result ℕ Refusal) (room : List ℕ) (after : LineRooms) → compare_gives a room ≡ gives after → (a ≡ Ok after.count) × (room ≡ after.lines)
 unfolding compare_gives
-lines_given (Lines n) room after e =
+lines_given (Ok n) room after e =
     let same : record { lines = room; count = n } ≡ after = cc in
-    (ap (λ (x : LineRooms). Lines x.count) same, ap (λ (x : LineRooms). x.lines) same)
-lines_given (Refused r) room after e = absurd (let z : ◌≡◌ {A = ℕ} 0 1 = cc in omega arith)
+    (ap (λ (x : LineRooms). Ok x.count) same, ap (λ (x : LineRooms). x.lines) same)
+lines_given (Err r) room after e = absurd (let z : ◌≡◌ {A = ℕ} 0 1 = cc in omega arith)
 
 module _ (e t e' t' : List ℕ) (before : LineRooms) where
   abbrev call : Call LineRooms
   call = compare_call e t e' t' before
 
   -- where the call answers 0, the comparison below it answered lines
-  below : call.answer ≡ 0 → compared e t e' t' before.lines ≡ record { answer = Lines call.lent.count; room = call.lent.lines }
+  below : call.answer ≡ 0 → compared e t e' t' before.lines ≡ record { answer = Ok call.lent.count; room = call.lent.lines }
   below z =
       let after = compared e t e' t' before.lines in
       let given = lines_given after.answer after.room call.lent ((compare_honest e t e' t' before).does z) in
-      ap (λ (a : Compared). record { answer = a; room = after.room }) given.0
-      ∙ ap (λ (r : List ℕ). record { answer = Lines call.lent.count; room = r }) given.1
+      ap (λ (a : Result ℕ Refusal). record { answer = a; room = after.room }) given.0
+      ∙ ap (λ (r : List ℕ). record { answer = Ok call.lent.count; room = r }) given.1
 
   -- ALL AND ONLY, of the call: the lines that stand in the buffer say all that differs and nothing else. No premise but the answer.
   pub all_and_only_in_c : call.answer ≡ 0 → Answered e t e' t' before.lines call.lent.count call.lent.lines

@@ -1,10 +1,9 @@
 -- ysh_steps is ysh_step, bar after bar: for any words of settings and state, any bars, rooms and lists.
-use Rattle.std.specs.Prelude.{ℕ, ◌+◌, ◌-◌, ◌/◌, ◌<◌, ◌≤◌, ◌≡◌, refl, Bool, true, false, List, [], ◌∷◌, length, take, drop}
+use Rattle.std.specs.Prelude.{ℕ, ◌+◌, ◌-◌, ◌/◌, ◌<◌, ◌≤◌, ◌≡◌, refl, Bool, true, false, List, [], ◌∷◌, length, take, drop, Err, Ok}
 use Rattle.words.specs.Prelude.{sym, ◌∙◌, arith, leb-true, ne_eqb}
 use Rattle.words.specs.{Limits.setting_words, Limits.state_words, Limits.bar_words, declared.refusal.Refusal.Refusal, Outcome.Outcome, Outcome.refuses}
 use Rattle.records.specs.{declared.settings.Settings.Settings, declared.state.State.State, Lent.Rooms, Lent.Lists, Laws.RoundTrip.words_floats}
 use Rattle.records.specs.{Settings.settings_of, StateWords.state_of}
-use Rattle.refusals.specs.{declared.verdict.Verdict.Verdict, declared.verdict.Verdict.TheVariants.Fine, declared.verdict.Verdict.TheVariants.Bad}
 use Rattle.refusals.specs.{Day.whole_bars, Day.whole_for, Lines.judged, Laws.Lines.first_holds, Laws.Lines.both_fine, Rooms.room_lines}
 use Rattle.engine.specs.{Day.in_records, Day.bars_in, Day.bars_for, Day.no_bars, Day.day_of, Laws.Days.records_next, Laws.Days.bars_none, Laws.Days.whole_one}
 use Rattle.engine.specs.{Laws.Days.some_bars, Laws.Runs.run_none, Laws.Runs.run_stops, Laws.Runs.run_takes, Run.Run, Run.run_over, Step.answered, Step.stepped}
@@ -16,6 +15,7 @@ use Rattle.stepping.specs.{Day.day_call, Day.steps_call, WordRun.WordRun, WordRu
 use Rattle.capi.specs.{Joined.first_agrees, Joined.words_fine, Joined.lent_fine, Joined.room_first, Joined.room_passed, Joined.calls_run}
 use Rattle.capi.specs.{Laws.Calls.refused_word, Laws.DumpCalls.lent_small, Laws.RunCalls.step_small}
 use Rattle.refusals.specs.{declared.day.Span.TheVariants.Many}
+use Rattle.refusals.specs.{Lines.Verdict}
 
 -- a run in words, over a state's words as they were given
 abbrev pub from_words : List ℕ → Run → WordRun
@@ -48,15 +48,15 @@ module _ (settings state : List ℕ) (set : setting_words ≤ length settings) (
 
   -- ---- the first call
 
-  first_bad : (bar : List ℕ) (r : Refusal) → step_verdict s t bar m ls ≡ Bad r
+  first_bad : (bar : List ℕ) (r : Refusal) → step_verdict s t bar m ls ≡ Err r
       → step_call settings state bar m ls ≡ record { answer = answer_word r; lent = given }
   unfolding step_call step_answer answered step_gives call_of
   first_bad bar r e =
       let again : ◌≡◌ {A = Outcome StepLent} (unless_bad (judged (room_lines s m.rows)) (refuses r)) (refuses r) =
-      first_agrees _ _ (λ q f. let same : Bad r ≡ Bad q = sym e ∙ room_first s t bar m ls q f in cc) in
+      first_agrees _ _ (λ q f. let same : Err r ≡ Err q = sym e ∙ room_first s t bar m ls q f in cc) in
       rw (e, lent_fine settings state set long m.rows, again)
 
-  first_fine : (bar : List ℕ) → step_verdict s t bar m ls ≡ Fine →
+  first_fine : (bar : List ℕ) → step_verdict s t bar m ls ≡ Ok tt →
       (let d = stepped s t bar m ls in step_call settings state bar m ls ≡ record { answer = 0; lent = lent_with state d.result d.rooms })
   unfolding step_call step_answer answered step_gives call_of unless_bad
   first_fine bar e = rw (e, lent_fine settings state set long m.rows, room_passed s t bar m ls e)
@@ -67,9 +67,9 @@ module _ (settings state : List ℕ) (set : setting_words ≤ length settings) (
   calls_from bar bars = go (step_verdict s t bar m ls) refl
     where
       go : (v : Verdict) → step_verdict s t bar m ls ≡ v → calls_over settings ls given (bar ∷ bars) ≡ from_words state (run_over s ls t m (bar ∷ bars))
-      go (Bad r) e =
+      go (Err r) e =
           rw (first_bad bar r e, run_stops s ls t m bar bars r e, ne_eqb (answer_word r) 0 (refused_word r (step_small s t bar m ls r e)))
-      go Fine e =
+      go (Ok tt) e =
           let d = stepped s t bar m ls in
           let later : Run = run_over s ls d.result d.rooms bars in
           let some = ne_eqb (later.done + 1) 0 (λ (z : later.done + 1 ≡ 0). omega arith) in
@@ -95,25 +95,25 @@ module _ (settings state : List ℕ) (set : setting_words ≤ length settings) (
     where
       go : (v : Verdict) → judged (room_lines s m.rows) ≡ v
           → day_gives v state m (run_over s ls t m (bar ∷ more)) ≡ in_one (from_words state (run_over s ls t m (bar ∷ more)))
-      go (Bad r) f = unfold day_gives state_after answer_of in rw (run_stops s ls t m bar more r (room_first s t bar m ls r f))
-      go Fine f = unfold day_gives in refl
+      go (Err r) f = unfold day_gives state_after answer_of in rw (run_stops s ls t m bar more r (room_first s t bar m ls r f))
+      go (Ok tt) f = unfold day_gives in refl
 
 -- ---- rooms that have not their words
 
 -- what was lent had its words
-pub words_had : (settings state : List ℕ) → judged (word_lines settings state) ≡ Fine → (setting_words ≤ length settings) × (state_words ≤ length state)
+pub words_had : (settings state : List ℕ) → judged (word_lines settings state) ≡ Ok tt → (setting_words ≤ length settings) × (state_words ≤ length state)
 unfolding word_lines
 words_had settings state fine =
     let first = first_holds _ _ fine in
     (leb-true _ _ first.0, leb-true _ _ (first_holds _ _ first.1).0)
 
-pub lent_had : (settings state rows : List ℕ) → judged (lent_lines settings state rows) ≡ Fine → (setting_words ≤ length settings) × (state_words ≤ length state)
+pub lent_had : (settings state rows : List ℕ) → judged (lent_lines settings state rows) ≡ Ok tt → (setting_words ≤ length settings) × (state_words ≤ length state)
 unfolding lent_lines
 lent_had settings state rows fine = words_had settings state (both_fine (room_lines (settings_of settings) rows) (word_lines settings state) fine).1
 
 -- a call of either kind is refused with the same, before it looks at a bar
 lent_bad : (settings state : List ℕ) (ls : Lists) (m : Rooms) (bars bar : List ℕ) (more : List (List ℕ)) → 0 < length bars
-    → bars_in (settings_of settings).slots bars ≡ bar ∷ more → (r : Refusal) → judged (lent_lines settings state m.rows) ≡ Bad r
+    → bars_in (settings_of settings).slots bars ≡ bar ∷ more → (r : Refusal) → judged (lent_lines settings state m.rows) ≡ Err r
     → steps_call settings state bars m ls ≡ in_one (calls_over settings ls (record { state = state; rooms = m }) (bars_in (settings_of settings).slots bars))
 unfolding day_call day_lent_lines no_bars day_gives calls_over step_call call_of unless_bad
 lent_bad settings state ls m bars bar more some e r bad =
@@ -137,7 +137,7 @@ first_of K w ws = go (whole_bars K (w ∷ ws)) refl
 
 -- ONE CALL IS A CALL FOR EACH BAR: the answer, how many did their work, the words of the state and of every room. For any words and rooms of any length,
 -- where the list has a word; one that has none makes no call of `ysh_step`, and asks for the rooms of settings and state alone.
-pub steps_are_calls : (settings state : List ℕ) (ls : Lists) (m : Rooms) (bars : List ℕ) → (length bars ≡ 0 → judged (word_lines settings state) ≡ Fine)
+pub steps_are_calls : (settings state : List ℕ) (ls : Lists) (m : Rooms) (bars : List ℕ) → (length bars ≡ 0 → judged (word_lines settings state) ≡ Ok tt)
     → steps_call settings state bars m ls ≡ in_one (calls_over settings ls (record { state = state; rooms = m }) (bars_in (settings_of settings).slots bars))
 steps_are_calls settings state ls m [] words = let had = words_had settings state (words refl) in no_bars_lem settings state had.0 had.1 ls m [] refl
 steps_are_calls settings state ls m (w ∷ ws) words = go (judged (lent_lines settings state m.rows)) refl
@@ -150,7 +150,7 @@ steps_are_calls settings state ls m (w ∷ ws) words = go (judged (lent_lines se
 
     go : (v : Verdict) → judged (lent_lines settings state m.rows) ≡ v
         → steps_call settings state (w ∷ ws) m ls ≡ in_one (calls_over settings ls (record { state = state; rooms = m }) (bars_in K (w ∷ ws)))
-    go (Bad r) bad = lent_bad settings state ls m (w ∷ ws) first.bar first.more (omega arith) first.is r bad
-    go Fine fine =
+    go (Err r) bad = lent_bad settings state ls m (w ∷ ws) first.bar first.more (omega arith) first.is r bad
+    go (Ok tt) fine =
         let had = lent_had settings state m.rows fine in
         some_of settings state had.0 had.1 ls m (w ∷ ws) first.bar first.more (omega arith) first.is

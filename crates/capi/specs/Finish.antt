@@ -1,13 +1,16 @@
 -- The call that ends a run. Definitions only.
-use Rattle.std.specs.Prelude.{ℕ, List, ◌++◌}
+use Rattle.std.specs.Prelude.{ℕ, List, ◌++◌, Err, Ok, Result}
 use Rattle.words.specs.{Words.overwrite, Outcome.Outcome, Outcome.gives, Outcome.refuses}
 use Rattle.records.specs.{Lent.Rooms, Settings.settings_of, StateWords.state_of, StateWords.words_of}
 use Rattle.refusals.specs.{Lines.judged}
-use Rattle.engine.specs.{declared.answer.Finished.Finished, declared.answer.Finished.TheVariants.Refused, declared.answer.Finished.TheVariants.Done}
 use Rattle.engine.specs.{Finish.finish_of}
 use Rattle.replies.specs.{Call.Call, Call.call_of, Call.unless_bad, Call.metric_lines}
 use Rattle.stepping.specs.{Bars.lent_lines}
 use Rattle.metrics.specs.Figures as Figures
+use Rattle.engine.specs.{declared.answer.Ended.Ended}
+use Rattle.engine.specs.{Ended.ended}
+use Rattle.words.specs.{declared.refusal.Refusal.Refusal}
+use Rattle.records.specs.{declared.state.State.State}
 
 -- the state's words, the rooms of equity points and of trades, and that of the metrics
 pub record FinishLent : Type 0 where
@@ -17,13 +20,13 @@ pub record FinishLent : Type 0 where
   pub metrics : List ℕ
 
 -- what the engine's end comes to, in words
-unfoldable pub finish_gives : Finished → List ℕ → Rooms → List ℕ → Outcome FinishLent
-finish_gives (Refused why given) state rooms metrics = refuses why
-finish_gives (Done next figures) state rooms metrics = gives (record {
-  state = overwrite state 0 (words_of next);
+unfoldable pub finish_gives : Result Ended (Refusal × State) → List ℕ → Rooms → List ℕ → Outcome FinishLent
+finish_gives (Err (why, given)) state rooms metrics = refuses why
+finish_gives (Ok ended) state rooms metrics = gives (record {
+  state = overwrite state 0 (words_of ended.state);
   equity = rooms.equity;
   trades = rooms.trades;
-  metrics = overwrite metrics 0 (Figures.figure_words figures);
+  metrics = overwrite metrics 0 (Figures.figure_words ended.metrics);
 })
 
 unfoldable pub finish_call : List ℕ → List ℕ → Rooms → List ℕ → Call FinishLent

@@ -1,13 +1,12 @@
 -- ysh_why_over is single calls of ysh_why, one for each row that is asked.
-use Rattle.std.specs.Prelude.{ℕ, ◌*◌, ◌<◌, ◌≤◌, ◌≡◌, refl, true, List, ◌++◌, length, drop, get_or}
+use Rattle.std.specs.Prelude.{ℕ, ◌*◌, ◌<◌, ◌≤◌, ◌≡◌, refl, true, List, ◌++◌, length, drop, get_or, Err, Ok, Result}
 use Rattle.words.specs.Prelude.{sym, arith, le-ltb, length-drop, length-take-le}
 use Rattle.words.specs.{Outcome.gives}
 use Rattle.rows.specs.{History.whole_rows}
-use Rattle.table.specs.{declared.answer.Answer.Answer, declared.answer.Answer.TheVariants.Accepted, declared.answer.Answer.TheVariants.Refused, Bytes.Bytes}
+use Rattle.table.specs.{Bytes.Bytes}
 use Rattle.table.specs.{Header.slots, Checked.checked}
 use Rattle.rules.specs.{declared.position.PositionState.PositionState, Answers.state_right}
 use Rattle.chain.specs.{Lines.chain_words, Explained.explanation, Explained.explained, Explained.explained_by, Explained.lines_after_answer, Laws.Short.few_lines}
-use Rattle.refusals.specs.{declared.verdict.Verdict.Verdict, declared.verdict.Verdict.TheVariants.Fine, declared.verdict.Verdict.TheVariants.Bad}
 use Rattle.refusals.specs.{Laws.Lines.never}
 use Rattle.questions.specs.{Position.position_at, Over.asked_rows, Over.rows_to, Over.explanation_over, Over.place_words, Over.lines_over, Over.counts_over}
 use Rattle.questions.specs.{Over.over_by, Over.over_verdict, Laws.Fine.OverFine, Laws.Fine.over_fine, Laws.Right.each_right, Laws.Upto.upto_whole}
@@ -16,6 +15,10 @@ use Rattle.questions.specs.{Laws.Places.past_counts, Laws.Places.counts_long}
 use Rattle.replies.specs.{Call.call_of, Call.unless_bad}
 use Rattle.capi.specs.{Why.why_gives, Why.why_call, WhyOver.OverLent, WhyOver.over_gives, WhyOver.over_call, Laws.Calls.Honest}
 use Rattle.capi.specs.{Laws.WhyOverCalls.why_over_honest}
+use Rattle.refusals.specs.{Lines.Verdict}
+use Rattle.words.specs.{declared.refusal.Refusal.Refusal}
+use Rattle.table.specs.{declared.answer.Accepted.Accepted}
+use Rattle.table.specs.{Outcome.accepts}
 
 -- ---- the statement
 
@@ -33,7 +36,7 @@ pub record Singles (t : List ℕ) (x : ℕ) (rows ps : List ℕ) (before after :
   pub counts_long : length after.counts ≡ length before.counts
 
 -- ---- a single call that does its work
-why_does : (t : List ℕ) (n r : ℕ) → checked t ≡ Accepted n r → (x : ℕ) (rows : List ℕ) (s : PositionState) (list : List ℕ) (count : ℕ)
+why_does : (t : List ℕ) (n r : ℕ) → checked t ≡ accepts n r → (x : ℕ) (rows : List ℕ) (s : PositionState) (list : List ℕ) (count : ℕ)
     → length list ≡ 256 → whole_rows (slots t) rows ≡ true → state_right s ≡ true
     → why_call t x rows s (record { count = count; lines = list })
     ≡ record {
@@ -48,23 +51,23 @@ why_does t n r ok x rows s list count long whole right = rw (ok, le-ltb (length 
 
 -- ---- what an answer of 0 tells
 
-gives_only : {A : Type 0} (v : Verdict) (after lent : A) → unless_bad v (gives after) ≡ gives lent → (v ≡ Fine) × (after ≡ lent)
+gives_only : {A : Type 0} (v : Verdict) (after lent : A) → unless_bad v (gives after) ≡ gives lent → (v ≡ Ok tt) × (after ≡ lent)
 unfolding unless_bad
-gives_only Fine after lent e = (refl, cc)
-gives_only (Bad r) after lent e = absurd (let z : ◌≡◌ {A = ℕ} 0 1 = cc in omega arith)
+gives_only (Ok tt) after lent e = (refl, cc)
+gives_only (Err r) after lent e = absurd (let z : ◌≡◌ {A = ℕ} 0 1 = cc in omega arith)
 
 record Seen (t rows ps : List ℕ) (lines counts : ℕ) : Type 0 where
   nodes : ℕ
   needed : ℕ
-  accepted : checked t ≡ Accepted nodes needed
+  accepted : checked t ≡ accepts nodes needed
   fine : OverFine (slots t) rows ps lines counts
 
-seen : (t rows ps : List ℕ) (lines counts : ℕ) (a : Answer) → a ≡ checked t → over_by a t rows ps lines counts ≡ Fine → Seen t rows ps lines counts
+seen : (t rows ps : List ℕ) (lines counts : ℕ) (a : Result Accepted Refusal) → a ≡ checked t → over_by a t rows ps lines counts ≡ Ok tt → Seen t rows ps lines counts
 unfolding over_by
-seen t rows ps lines counts (Refused why) e h = never h
-seen t rows ps lines counts (Accepted n r) e h = record {
-  nodes = n;
-  needed = r;
+seen t rows ps lines counts (Err why) e h = never h
+seen t rows ps lines counts (Ok accepted) e h = record {
+  nodes = accepted.nodes;
+  needed = accepted.rows;
   accepted = sym e;
   fine = over_fine (slots t) rows ps lines counts h;
 }

@@ -1,14 +1,14 @@
 -- The call for a part of a dump. Definitions only.
-use Rattle.std.specs.Prelude.{ℕ, List, length}
+use Rattle.std.specs.Prelude.{ℕ, List, length, Err, Ok}
 use Rattle.words.specs.{Words.overwrite, Outcome.Outcome, Outcome.gives, Outcome.refuses}
 use Rattle.records.specs.{Settings.settings_of, StateWords.state_of}
-use Rattle.refusals.specs.{declared.verdict.Verdict.Verdict, declared.verdict.Verdict.TheVariants.Fine, declared.verdict.Verdict.TheVariants.Bad}
 use Rattle.refusals.specs.{Lines.judged}
 use Rattle.images.specs.{Layout.image_of}
 use Rattle.dumpable.specs.{Refused.part_judged}
 use Rattle.dump.specs.{Parts.bytes_from}
 use Rattle.replies.specs.{Call.Call, Call.call_of, Call.unless_bad}
 use Rattle.stepping.specs.{Bars.lent_lines}
+use Rattle.refusals.specs.{Lines.Verdict}
 
 -- lent: the part, and how many of its bytes are the image's
 pub record PartLent : Type 0 where
@@ -16,8 +16,8 @@ pub record PartLent : Type 0 where
   pub used : ℕ
 
 unfoldable pub part_gives : Verdict → PartLent → Outcome PartLent
-part_gives Fine after = gives after
-part_gives (Bad why) after = refuses why
+part_gives (Ok tt) after = gives after
+part_gives (Err why) after = refuses why
 
 -- bytes over the first of the part, and their number
 unfoldable pub filled_with : List ℕ → List ℕ → PartLent

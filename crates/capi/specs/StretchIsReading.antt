@@ -1,14 +1,14 @@
 -- Request 10 in the words of the C calls: rooms filled from empty by ysh_append, each answered 0, and any ysh_stretch over bars that they hold.
-use Rattle.std.specs.Prelude.{ℕ, ◌+◌, ◌-◌, ◌<◌, ◌≤◌, ◌≡◌, List, [], ◌∷◌, ◌++◌}
+use Rattle.std.specs.Prelude.{ℕ, ◌+◌, ◌-◌, ◌<◌, ◌≤◌, ◌≡◌, List, [], ◌∷◌, ◌++◌, Err, Ok, Result}
 use Rattle.words.specs.Prelude.{sym, ap, subst, ◌∙◌, arith}
 use Rattle.words.specs.{Outcome.gives}
-use Rattle.blocks.specs.{declared.append.Added.Added, declared.append.Added.TheVariants.Held, declared.append.Added.TheVariants.Refused}
-use Rattle.blocks.specs.{declared.best.Best.Best, declared.stretch.Found.Found, Append.Append, Append.appended, Reading.reading, Reading.HighAndLow}
+use Rattle.blocks.specs.{declared.best.Best.Best, Append.Append, Append.appended, Reading.reading, Reading.HighAndLow}
 use Rattle.blocks.specs.{Stretch.stretched, Laws.Append.appended_has, Laws.Append.is_taken, StretchIsReading.Filled, StretchIsReading.empty}
 use Rattle.blocks.specs.{StretchIsReading.then, StretchIsReading.stretch_is_reading}
 use Rattle.replies.specs.{Call.Call, Call.call_of}
 use Rattle.capi.specs.{Stretch.BlockRooms, Stretch.append_gives, Stretch.append_call, Stretch.stretch_gives, Stretch.stretch_call}
 use Rattle.capi.specs.{Laws.StretchCalls.append_honest}
+use Rattle.words.specs.{declared.refusal.Refusal.Refusal}
 
 -- closes appended one after another, each call answered 0, to rooms with no bar held and any words
 pub data Appended : List ℕ → BlockRooms → Type 0 where
@@ -24,12 +24,12 @@ pub record TellsReading (given : List ℕ) (first last : ℕ) (call : Call Best)
 
 -- ---- an append that answers 0 is one that is taken
 
-given_up : (a : Added) (closes blocks : List ℕ) (after : BlockRooms) → append_gives a closes blocks ≡ gives after
-    → (a ≡ Held after.held) × (after ≡ record { held = after.held; closes = closes; blocks = blocks })
+given_up : (a : Result ℕ Refusal) (closes blocks : List ℕ) (after : BlockRooms) → append_gives a closes blocks ≡ gives after
+    → (a ≡ Ok after.held) × (after ≡ record { held = after.held; closes = closes; blocks = blocks })
 unfolding append_gives
-given_up (Held bars) closes blocks after e = let same : record { held = bars; closes = closes; blocks = blocks } ≡ after = cc in
-    (ap (λ (r : BlockRooms). Held r.held) same, sym same ∙ ap (λ (r : BlockRooms). record { held = r.held; closes = closes; blocks = blocks }) same)
-given_up (Refused why) closes blocks after e = absurd (let z : ◌≡◌ {A = ℕ} 0 1 = cc in omega arith)
+given_up (Ok bars) closes blocks after e = let same : record { held = bars; closes = closes; blocks = blocks } ≡ after = cc in
+    (ap (λ (r : BlockRooms). Ok r.held) same, sym same ∙ ap (λ (r : BlockRooms). record { held = r.held; closes = closes; blocks = blocks }) same)
+given_up (Err why) closes blocks after e = absurd (let z : ◌≡◌ {A = ℕ} 0 1 = cc in omega arith)
 
 filled : {given : List ℕ} {rooms : BlockRooms} → Appended given rooms → Filled given rooms.held rooms.closes rooms.blocks
 filled (none closes blocks) = empty closes blocks
@@ -44,7 +44,7 @@ filled (more {given} {rooms} f close e) =
 
 -- ---- a question that finds answers 0, with what it found
 
-told : (f : Found) (b before : Best) → f ≡ Found.Best b → call_of (stretch_gives f) before ≡ record { answer = 0; lent = b }
+told : (f : Result Best Refusal) (b before : Best) → f ≡ Ok b → call_of (stretch_gives f) before ≡ record { answer = 0; lent = b }
 unfolding stretch_gives call_of
 told f b before e = simp e
 

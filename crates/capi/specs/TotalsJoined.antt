@@ -1,12 +1,13 @@
 -- EXACT TOTALS IN C: every way to total the same trades by ysh_totals and ysh_totals_join answers 0 at every call and leaves the same 43 words.
-use Rattle.std.specs.Prelude.{ℕ, ◌≤◌, ◌≡◌, refl, List, length, replicate}
+use Rattle.std.specs.Prelude.{ℕ, ◌≤◌, ◌≡◌, refl, List, length, replicate, Ok, Result}
 use Rattle.words.specs.Prelude.{ap, ◌∙◌}
 use Rattle.words.specs.{Limits.most_count}
-use Rattle.totals.specs.{declared.Answer.Answer, declared.Answer.TheVariants.Done, Totals.total_words, Totals.add_answer}
+use Rattle.totals.specs.{Totals.total_words, Totals.add_answer}
 use Rattle.totals.specs.{Totals.add_leaves, Totals.join_answer, Totals.join_leaves, Ways.Way, Ways.begin, Ways.add, Ways.join, Ways.made, Ways.AllDone}
 use Rattle.totals.specs.{Ways.trades_in, Ways.WholeLists, Ways.totals_of, Laws.Trades.Acceptable, ExactTotals.exact_totals}
 use Rattle.replies.specs.{Call.call_of}
 use Rattle.capi.specs.{Totals.totals_gives, Totals.totals_call, Totals.join_call}
+use Rattle.words.specs.{declared.refusal.Refusal.Refusal}
 
 -- the words that the calls of a way leave, begun with 43 zeros
 unfoldable pub called_by : Way → List ℕ
@@ -21,7 +22,7 @@ AllZero (add w list) = AllZero w × ((totals_call (called_by w) list).answer ≡
 AllZero (join v w) = AllZero v × AllZero w × ((join_call (called_by v) (called_by w)).answer ≡ 0)
 
 -- a call of which the crate below says that it is done
-does : (a : Answer) (before after : List ℕ) → a ≡ Done
+does : (a : Result (Unit {0}) Refusal) (before after : List ℕ) → a ≡ Ok tt
     → ((call_of (totals_gives a after) before).answer ≡ 0) × ((call_of (totals_gives a after) before).lent ≡ after)
 unfolding call_of totals_gives
 does a before after h = (simp h, simp h)

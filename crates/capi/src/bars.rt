@@ -6,12 +6,11 @@ ghost use Rattle.capi.specs.Finish.{finish_call};
 
 use crate::calls::judge_rooms;
 use crate::figures::put_metrics;
-use engine::answer::Finished;
 use records::settings::settings_of;
 use records::state_words::{put_state, state_of};
 use refusals::day::Span;
 use refusals::lists::Lists;
-use refusals::verdict::{Verdict, first_bad};
+use refusals::verdict::first_bad;
 use replies::{answer_word, judge_metrics};
 use stepping::day::call_bars;
 
@@ -81,13 +80,13 @@ pub extern "C" fn ysh_finish(
     let chosen = settings_of(settings);
     let below = judge_metrics(metrics);
     let lent = first_bad(judge_rooms(chosen, settings, state, rows), below);
-    if let Verdict::Bad(refusal) = lent {
+    if let Err(refusal) = lent {
         return answer_word(refusal);
     }
     let finished = ending::finish(chosen, state_of(state), rows, equity, trades);
     match finished {
-        Finished::Refused(refusal, _) => answer_word(refusal),
-        Finished::Done(next, figures) => {
+        Err((refusal, _)) => answer_word(refusal),
+        Ok(ended) => {
             put_state(state, next);
             put_metrics(metrics, figures);
             0

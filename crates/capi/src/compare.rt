@@ -2,7 +2,7 @@
 ghost use Rattle.std.specs.Prelude.{◌≡◌};
 ghost use Rattle.capi.specs.Compare.{compare_call};
 
-use differences::compare::{Compared, compare};
+use differences::compare::compare;
 use replies::answer_word;
 
 // Writes what differs between two runs, a line each, and how many lines there are.
@@ -21,8 +21,8 @@ pub extern "C" fn ysh_compare(
 {
     let compared = compare(equity, trades, other_equity, other_trades, lines);
     match compared {
-        Compared::Refused(refusal) => answer_word(refusal),
-        Compared::Lines(many) => {
+        Err(refusal) => answer_word(refusal),
+        Ok(many) => {
             *count = many as u64;
             0
         }

@@ -6,8 +6,7 @@ ghost use Rattle.floats.specs.Floats.{word_of, float_of};
 ghost use Rattle.floats.specs.Sqrt.{sqrt};
 ghost use Rattle.capi.specs.Figures.{metrics_call};
 
-use metrics::{Answer, Metrics};
-use refusals::verdict::Verdict;
+use metrics::Metrics;
 use replies::{answer_word, judge_metrics};
 
 // Writes the nine metrics over the first words of a room; nothing where it is shorter.
@@ -29,13 +28,13 @@ pub extern "C" fn ysh_metrics(
     ensures { metrics_call initial equity.now trades.now metrics.old
         ≡ record { answer = result; lent = metrics.new } }
 {
-    if let Verdict::Bad(refusal) = judge_metrics(metrics) {
+    if let Err(refusal) = judge_metrics(metrics) {
         return answer_word(refusal);
     }
     let computed = metrics::compute(floats::float_of(initial), equity, trades);
     match computed {
-        Answer::Refused(refusal) => answer_word(refusal),
-        Answer::Done(m) => {
+        Err(refusal) => answer_word(refusal),
+        Ok(m) => {
             put_metrics(metrics, m);
             0
         }

@@ -3,10 +3,8 @@ ghost use Rattle.std.specs.Prelude.{◌≡◌};
 ghost use Rattle.capi.specs.Part.{part_call};
 
 use crate::calls::judge_rooms;
-use dump::part::Parted;
 use records::settings::settings_of;
 use records::state_words::state_of;
-use refusals::verdict::Verdict;
 use replies::answer_word;
 
 // A part by the lines of the refusals, the first of which is answered that does not hold.
@@ -23,13 +21,13 @@ fn part_judged(
         ≡ record { answer = result; lent = record { part = part.exit.now; used = used.new } } }
 {
     let chosen = settings_of(settings);
-    if let Verdict::Bad(refusal) = judge_rooms(chosen, settings, state, rows) {
+    if let Err(refusal) = judge_rooms(chosen, settings, state, rows) {
         return answer_word(refusal);
     }
     let parted = dump::part::part(chosen, state_of(state), rows, at as usize, part);
     match parted {
-        Parted::Refused(refusal) => answer_word(refusal),
-        Parted::Used(count) => {
+        Err(refusal) => answer_word(refusal),
+        Ok(count) => {
             *used = count as u64;
             0
         }

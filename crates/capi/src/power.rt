@@ -4,10 +4,8 @@ ghost use Rattle.images.specs.Layout.{size_for};
 ghost use Rattle.capi.specs.Power.{dump_call, restore_call};
 
 use crate::calls::judge_rooms;
-use images::reader::Restored;
 use records::settings::settings_of;
 use records::state_words::{put_state, state_of};
-use refusals::verdict::Verdict;
 use replies::answer_word;
 
 // The bytes of a dump, for a K and a D; 0 where no settings have them.
@@ -31,11 +29,11 @@ fn dump_judged(
         ≡ record { answer = result; lent = area.new } }
 {
     let chosen = settings_of(settings);
-    if let Verdict::Bad(refusal) = judge_rooms(chosen, settings, state, rows) {
+    if let Err(refusal) = judge_rooms(chosen, settings, state, rows) {
         return answer_word(refusal);
     }
     let given = state_of(state);
-    if let Verdict::Bad(refusal) = dump::dump(
+    if let Err(refusal) = dump::dump(
         chosen,
         given,
         rows,
@@ -79,13 +77,13 @@ pub extern "C" fn ysh_restore(
         ≡ record { answer = result; lent = record { state = state.exit.now; rows = rows.new } } }
 {
     let chosen = settings_of(settings);
-    if let Verdict::Bad(refusal) = judge_rooms(chosen, settings, state, rows) {
+    if let Err(refusal) = judge_rooms(chosen, settings, state, rows) {
         return answer_word(refusal);
     }
     let restored = images::restore(chosen, image, rows);
     match restored {
-        Restored::Refused(refusal) => answer_word(refusal),
-        Restored::Done(next) => {
+        Err(refusal) => answer_word(refusal),
+        Ok(next) => {
             put_state(state, next);
             0
         }

@@ -3,7 +3,6 @@ ghost use Rattle.std.specs.Prelude.{◌≡◌};
 ghost use Rattle.capi.specs.Totals.{totals_call, join_call};
 
 use replies::answer_word;
-use totals::Answer;
 
 // Adds a list of trades to totals.
 #[unsafe(no_mangle)]
@@ -12,8 +11,8 @@ pub extern "C" fn ysh_totals(totals: &mut [u64], trades: &[u64]) -> u64
 {
     let added = totals::add(totals, trades);
     match added {
-        Answer::Refused(refusal) => answer_word(refusal),
-        Answer::Done => 0,
+        Err(refusal) => answer_word(refusal),
+        Ok(()) => 0,
     }
 }
 
@@ -24,7 +23,7 @@ pub extern "C" fn ysh_totals_join(totals: &mut [u64], other: &[u64]) -> u64
 {
     let joined = totals::join(totals, other);
     match joined {
-        Answer::Refused(refusal) => answer_word(refusal),
-        Answer::Done => 0,
+        Err(refusal) => answer_word(refusal),
+        Ok(()) => 0,
     }
 }

@@ -6,8 +6,6 @@ ghost use Rattle.capi.specs.Run.{says_of, rule_call, run_call};
 use crate::tables::numbered_tree;
 use questions::position::position_state;
 use replies::{answer_word, bit_of};
-use rules::answers::RuleAnswer;
-use steps::running::RunAnswer;
 use words::limits::TREES;
 
 // What is written for a tree's answer; an absent tree says no.
@@ -35,8 +33,8 @@ pub extern "C" fn ysh_rule(
     let position = position_state(qty, entered, entry_bar, bars_seen);
     let said = rules::answers::answer_rule(table, numbered_tree(tree), rows, position);
     match said {
-        RuleAnswer::Refuses(refusal) => answer_word(refusal),
-        RuleAnswer::Says(yes) => {
+        Err(refusal) => answer_word(refusal),
+        Ok(yes) => {
             *answer = says_of(tree, yes);
             0
         }
@@ -64,8 +62,8 @@ pub extern "C" fn ysh_run(
     let position = position_state(qty, entered, entry_bar, bars_seen);
     let ran = steps::running::run(steps, rows, slots as usize, depth as usize, position);
     match ran {
-        RunAnswer::Refuses(refusal) => answer_word(refusal),
-        RunAnswer::Runs(run) => {
+        Err(refusal) => answer_word(refusal),
+        Ok(run) => {
             *answer = bit_of(run.answer);
             *visits = run.visits as u64;
             0

@@ -2,8 +2,8 @@
 ghost use Rattle.std.specs.Prelude.{◌≡◌};
 ghost use Rattle.capi.specs.Stretch.{append_call, stretch_call};
 
-use blocks::append::{Added, append};
-use blocks::stretch::{Found, stretch};
+use blocks::append::append;
+use blocks::stretch::stretch;
 use replies::answer_word;
 
 // Appends a close to the bars held.
@@ -19,8 +19,8 @@ pub extern "C" fn ysh_append(
 {
     let added = append(*held as usize, close, closes, blocks);
     match added {
-        Added::Refused(refusal) => answer_word(refusal),
-        Added::Held(bars) => {
+        Err(refusal) => answer_word(refusal),
+        Ok(bars) => {
             *held = bars as u64;
             0
         }
@@ -54,8 +54,8 @@ pub extern "C" fn ysh_stretch(
 {
     let found = stretch(held as usize, first as usize, last as usize, closes, blocks);
     match found {
-        Found::Refused(refusal) => answer_word(refusal),
-        Found::Best(best) => {
+        Err(refusal) => answer_word(refusal),
+        Ok(best) => {
             *high = best.high;
             *high_bar = best.high_bar;
             *low = best.low;

@@ -1,12 +1,9 @@
 // Checking a rule table, how deep a window it needs, and its trees as steps.
 ghost use Rattle.std.specs.Prelude.{◌≡◌};
 ghost use Rattle.capi.specs.Tables.{numbered_tree, check_call, depth_call, silent_call, translate_call};
-
-use needed::depth::DepthAnswer;
+use needed::depth::Needs;
+use table::answer::Accepted;
 use replies::answer_word;
-use steps::translated::Translated;
-use table::answer::Answer;
-use table::silent::SilentAnswer;
 use table::trees::Tree;
 use words::limits::TREES;
 
@@ -34,11 +31,8 @@ pub extern "C" fn ysh_check(table: &[u8], nodes: &mut u64, rows: &mut u64) -> u6
     let checked = table::check(table);
     let answer = checked.answer;
     match answer {
-        Answer::Refused(refusal) => answer_word(refusal),
-        Answer::Accepted {
-            nodes: n,
-            rows: needed,
-        } => {
+        Err(refusal) => answer_word(refusal),
+        Ok(Accepted { nodes: n, rows: needed }) => {
             *nodes = n as u64;
             *rows = needed;
             0
@@ -54,12 +48,8 @@ pub extern "C" fn ysh_depth(table: &[u8], lookback: u64, rows: &mut u64, bytes: 
 {
     let depth = needed::depth::depth(table, lookback);
     match depth {
-        DepthAnswer::Refuses(refusal) => answer_word(refusal),
-        DepthAnswer::Needs {
-            rows: needed,
-            row: _,
-            window,
-        } => {
+        Err(refusal) => answer_word(refusal),
+        Ok(Needs { rows: needed, row: _, window }) => {
             *rows = needed;
             *bytes = window;
             0
@@ -75,8 +65,8 @@ pub extern "C" fn ysh_silent(table: &[u8], rows: u64, list: &mut [u64], count: &
 {
     let silent = needed::silent::silent_tests(table, rows, list);
     match silent {
-        SilentAnswer::Refuses(refusal) => answer_word(refusal),
-        SilentAnswer::Lists(many) => {
+        Err(refusal) => answer_word(refusal),
+        Ok(many) => {
             *count = many as u64;
             0
         }
@@ -93,8 +83,8 @@ pub extern "C" fn ysh_translate(table: &[u8], tree: u64, room: &mut [u8], used: 
         let checked = table::check(table);
         let answer = checked.answer;
         match answer {
-            Answer::Refused(refusal) => return answer_word(refusal),
-            Answer::Accepted { nodes: _, rows: _ } => {
+            Err(refusal) => return answer_word(refusal),
+            Ok(_) => {
                 *used = 0;
                 return 0;
             }
@@ -102,8 +92,8 @@ pub extern "C" fn ysh_translate(table: &[u8], tree: u64, room: &mut [u8], used: 
     }
     let translated = translation::translate(table, numbered_tree(tree), room);
     match translated {
-        Translated::Refuses(refusal) => answer_word(refusal),
-        Translated::Writes(count) => {
+        Err(refusal) => answer_word(refusal),
+        Ok(count) => {
             *used = STEP_BYTES * count as u64;
             0
         }

@@ -2,8 +2,6 @@
 ghost use Rattle.std.specs.Prelude.{◌≡◌};
 ghost use Rattle.questions.specs.Position.{position_state};
 ghost use Rattle.capi.specs.Why.{why_call};
-
-use chain::explain::Explained;
 use questions::position::position_state;
 use replies::answer_word;
 
@@ -27,8 +25,8 @@ pub extern "C" fn ysh_why(
     let position = position_state(qty, entered, entry_bar, bars_seen);
     let explained = chain::explain::explain(table, tree, rows, position, lines);
     match explained {
-        Explained::Refuses(refusal) => answer_word(refusal),
-        Explained::Lines(many) => {
+        Err(refusal) => answer_word(refusal),
+        Ok(many) => {
             *count = many as u64;
             0
         }

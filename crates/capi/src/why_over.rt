@@ -3,7 +3,6 @@ ghost use Rattle.std.specs.Prelude.{◌≡◌};
 ghost use Rattle.capi.specs.WhyOver.{over_call};
 
 use questions::over::explain_over;
-use refusals::verdict::Verdict;
 use replies::answer_word;
 
 // The chain of ysh_why for each of the newest rows, as many as there are positions, oldest first: each has its own 256 words of the lines, and a count.
@@ -22,7 +21,7 @@ pub extern "C" fn ysh_why_over(
 {
     let verdict = explain_over(table, tree, rows, positions, lines, counts);
     match verdict {
-        Verdict::Bad(refusal) => answer_word(refusal),
-        Verdict::Fine => 0,
+        Err(refusal) => answer_word(refusal),
+        Ok(()) => 0,
     }
 }

@@ -1,14 +1,18 @@
 -- The lines of a tree, and the answer of the call, case by case. Assumes nothing.
+use Rattle.std.specs.Prelude.{Err, Ok, Result}
 use Rattle.words.specs.Prelude.{ℕ, ◌+◌, ◌*◌, ◌≤◌, ◌<◌, ◌≡◌, refl, sym, ap, ◌∙◌, Bool, true, false, List, ◌++◌, arith, zero-add, length, drop, lt-ltb, le-ltb}
 use Rattle.words.specs.Prelude.{le-leb, lt-leb, eq-eqb, ne_eqb}
-use Rattle.words.specs.{declared.refusal.Refusal.Refusal, Outcome.refusal}
+use Rattle.words.specs.{declared.refusal.Refusal.Refusal}
 use Rattle.rows.specs.{History.history_of, History.whole_rows}
-use Rattle.table.specs.{declared.answer.Answer.Answer, declared.answer.Answer.TheVariants.Accepted, declared.answer.Answer.TheVariants.Refused, Bytes.Bytes}
+use Rattle.table.specs.{Bytes.Bytes}
 use Rattle.table.specs.{Header.slots, Header.count, Header.root, Checked.checked, Ends.ends_beside}
 use Rattle.rules.specs.{declared.position.PositionState.PositionState, Meaning.newest, Flat.flat_condition_at, Answers.state_right}
-use Rattle.chain.specs.{declared.explain.Explained.TheVariants.Lines, declared.explain.Explained.TheVariants.Refuses, Chain.chain, Lines.chain_words}
+use Rattle.chain.specs.{Chain.chain, Lines.chain_words}
 use Rattle.chain.specs.{Lines.put_lines, Explained.explanation, Explained.explained_by, Explained.explained, Explained.lines_after_answer, Flat.by_ends}
 use Rattle.chain.specs.{Flat.flat_explanation, Laws.Numbered.explanation_found, Laws.Lines.lines_put, Laws.Short.few_lines}
+use Rattle.table.specs.{declared.answer.Accepted.Accepted}
+use Rattle.table.specs.{Outcome.accepts}
+use Rattle.words.specs.declared.refusal.Refusal.TheVariants as Refusal
 
 module _ (t ends : List ℕ) (x : ℕ) (rows : List ℕ) (s : PositionState) (list : List ℕ) where
   -- no such tree
@@ -30,35 +34,35 @@ module _ (t ends : List ℕ) (x : ℕ) (rows : List ℕ) (s : PositionState) (li
         rw (lt-leb 4 x low, ← counted, ne_eqb c 0 some, ← e, ← f, ← g) (many ∙ zero-add _, put)
 
 module _ (t : List ℕ) (x : ℕ) (rows : List ℕ) (s : PositionState) (list : List ℕ) where
-  pub refused : (a : Answer) (why : Refusal) → a ≡ checked t → a ≡ Refused why
-      → (Refuses why ≡ explained t x rows s list) × (list ≡ lines_after_answer (Refuses why) (explanation t x rows s) list)
+  pub refused : (a : Result Accepted Refusal) (why : Refusal) → a ≡ checked t → a ≡ Err why
+      → (Err why ≡ explained t x rows s list) × (list ≡ lines_after_answer (Err why) (explanation t x rows s) list)
   unfolding explained explained_by lines_after_answer
   refused a why e f = (rw (← e, f), refl)
 
-  module _ (a : Answer) (n r : ℕ) (found : a ≡ checked t) (accepted : a ≡ Accepted n r) where
-    ok : checked t ≡ Accepted n r
+  module _ (a : Result Accepted Refusal) (n r : ℕ) (found : a ≡ checked t) (accepted : a ≡ accepts n r) where
+    ok : checked t ≡ accepts n r
     ok = sym found ∙ accepted
 
     pub too_small : length list < 256
-        → (Refuses (refusal 10 10) ≡ explained t x rows s list) × (list ≡ lines_after_answer (Refuses (refusal 10 10)) (explanation t x rows s) list)
+        → (Err (Refusal.Room 10) ≡ explained t x rows s list) × (list ≡ lines_after_answer (Err (Refusal.Room 10)) (explanation t x rows s) list)
     unfolding explained explained_by lines_after_answer
     too_small l = (rw (ok, lt-ltb (length list) 256 l), refl)
 
     module _ (fits : 256 ≤ length list) (whole : Bool) (w : whole ≡ whole_rows (slots t) rows) where
       pub unwhole : whole ≡ false
-          → (Refuses (refusal 13 0) ≡ explained t x rows s list) × (list ≡ lines_after_answer (Refuses (refusal 13 0)) (explanation t x rows s) list)
+          → (Err Refusal.Records ≡ explained t x rows s list) × (list ≡ lines_after_answer (Err Refusal.Records) (explanation t x rows s) list)
       unfolding explained explained_by lines_after_answer
       unwhole e = (rw (ok, le-ltb (length list) 256 fits, ← w, e), refl)
 
       module _ (e : whole ≡ true) (right : Bool) (p : right ≡ state_right s) where
         pub unright : right ≡ false
-            → (Refuses (refusal 13 0) ≡ explained t x rows s list) × (list ≡ lines_after_answer (Refuses (refusal 13 0)) (explanation t x rows s) list)
+            → (Err Refusal.Records ≡ explained t x rows s list) × (list ≡ lines_after_answer (Err Refusal.Records) (explanation t x rows s) list)
         unfolding explained explained_by lines_after_answer
         unright f = (rw (ok, le-ltb (length list) 256 fits, ← w, ← p, e, f), refl)
 
         pub explains : right ≡ true → Bytes t → (ends : List ℕ) → ends ≡ ends_beside t → (m : ℕ) (after : List ℕ)
             → m ≡ length (flat_explanation t ends x rows s) → after ≡ put_lines list 0 (flat_explanation t ends x rows s)
-            → (Lines m ≡ explained t x rows s list) × (after ≡ lines_after_answer (Lines m) (explanation t x rows s) list)
+            → (Ok m ≡ explained t x rows s list) × (after ≡ lines_after_answer (Ok m) (explanation t x rows s) list)
         unfolding explained explained_by lines_after_answer
         explains f small ends g m after many put =
             let ls = explanation t x rows s in
@@ -66,4 +70,4 @@ module _ (t : List ℕ) (x : ℕ) (rows : List ℕ) (s : PositionState) (list : 
             let short : length ls ≤ 32 = few_lines t small n r ok x rows s in
             let written : after ≡ chain_words ls ++ drop (8 * length ls) list =
             rw same at put ∙ lines_put ls list 0 (omega arith) ∙ ap (λ (k : ℕ). chain_words ls ++ drop (8 * k) list) (zero-add (length ls)) in
-            (rw (ok, le-ltb (length list) 256 fits, ← w, ← p, e, f) (ap Lines (many ∙ ap length same)), written)
+            (rw (ok, le-ltb (length list) 256 fits, ← w, ← p, e, f) (ap Ok (many ∙ ap length same)), written)

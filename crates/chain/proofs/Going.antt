@@ -1,17 +1,18 @@
 -- Where the chain goes from a node. Assumes nothing.
+use Rattle.std.specs.Prelude.{None, Some}
 use Rattle.words.specs.Prelude.{ℕ, zero, suc, ◌-◌, ◌<◌, ◌≤◌, ◌≡◌, refl, Bool, true, false, Bool·beq, List, arith, sub-one}
 use Rattle.rows.specs.{History.History}
 use Rattle.rules.specs.{declared.position.PositionState.PositionState, declared.shapes.ConditionShape.ConditionShape, Meaning.holds, Shapes.end_in}
 use Rattle.rules.specs.{Shapes.condition_shape, Flat.flat_condition_at}
-use Rattle.chain.specs.{declared.walk.Next.TheVariants.Stop, declared.walk.Next.TheVariants.Node, Flat.first_at, Flat.next_by, Flat.next_at}
+use Rattle.chain.specs.{Flat.first_at, Flat.next_by, Flat.next_at}
 
 -- the first of a row of conditions gives the answer, does not, or is not there
 module _ (ends : List ℕ) (says : ℕ → Bool) (answer : Bool) (n j : ℕ) where
-  pub first_is : (b : Bool) → 0 < n → b ≡ says j → Bool·beq b answer ≡ true → first_at ends says answer n j ≡ Node j
+  pub first_is : (b : Bool) → 0 < n → b ≡ says j → Bool·beq b answer ≡ true → first_at ends says answer n j ≡ Some j
   unfolding first_at
   first_is b some e f = go n some
     where
-      go : (n : ℕ) → 0 < n → first_at ends says answer n j ≡ Node j
+      go : (n : ℕ) → 0 < n → first_at ends says answer n j ≡ Some j
       go zero l = absurd (omega arith)
       go (suc n) l = rw (← e, f)
 
@@ -24,16 +25,16 @@ module _ (ends : List ℕ) (says : ℕ → Bool) (answer : Bool) (n j : ℕ) whe
       go zero l = absurd (omega arith)
       go (suc n) l = rw (sub-one (suc n), ← e, f)
 
-  pub first_none : n ≤ 0 → first_at ends says answer n j ≡ Stop
+  pub first_none : n ≤ 0 → first_at ends says answer n j ≡ None
   unfolding first_at
   first_none none = go n none
     where
-      go : (n : ℕ) → n ≤ 0 → first_at ends says answer n j ≡ Stop
+      go : (n : ℕ) → n ≤ 0 → first_at ends says answer n j ≡ None
       go zero l = refl
       go (suc n) l = absurd (omega arith)
 
 module _ (t ends : List ℕ) (h : History) (s : PositionState) (i bar left : ℕ) where
-  pub next_deep : left ≡ 0 → next_at left t ends h s i bar ≡ Stop
+  pub next_deep : left ≡ 0 → next_at left t ends h s i bar ≡ None
   unfolding next_at
   next_deep e = rw e
 

@@ -1,4 +1,5 @@
 -- The first missing leaf at a node, by the node's shape. Assumes nothing.
+use Rattle.std.specs.Prelude.{Option, ℕ}
 use Rattle.words.specs.Prelude.{ℕ, ◌+◌, ◌-◌, ◌≡◌, refl, sym, ap, ◌∙◌, Bool, true, false, List, arith}
 use Rattle.rows.specs.{History.History}
 use Rattle.table.specs.{declared.series.Series.Series, Series.as_operand, Series.series_in}
@@ -8,7 +9,7 @@ use Rattle.rules.specs.{declared.shapes.OperandShape.TheVariants.Prev, declared.
 use Rattle.rules.specs.{declared.shapes.OperandShape.TheVariants.Extreme, declared.shapes.OperandShape.TheVariants.NoOperand, Shapes.operand_shape}
 use Rattle.rules.specs.{Flat.grow_operand, Flat.flat_operand_at}
 use Rattle.rules.proofs.{Grown.no_operand, Grown.grown_operand}
-use Rattle.chain.specs.{declared.missing.Found.Found, Missing.first_found, Missing.leaf_gone, Missing.newest_gone, Missing.missing_in, Flat.by_ends}
+use Rattle.chain.specs.{Missing.first_found, Missing.leaf_gone, Missing.newest_gone, Missing.missing_in, Flat.by_ends}
 use Rattle.chain.specs.{Laws.Shapes.OperandPlaced, Laws.Shapes.operand_placed}
 
 -- the shapes that have nothing below them
@@ -21,7 +22,7 @@ is_leaf (Arith kind a b) = false
 is_leaf (Extreme kind a n) = false
 is_leaf NoOperand = true
 
-module _ (t ends : List ℕ) (h : History) (i bar back left : ℕ) (r : Found) where
+module _ (t ends : List ℕ) (h : History) (i bar back left : ℕ) (r : Option (ℕ × ℕ)) where
   -- with no level left
   pub gone_deep : left ≡ 0 → r ≡ leaf_gone h (flat_operand_at left t ends i) i bar back → r ≡ missing_in (by_ends ends) h (flat_operand_at left t ends i) i bar back
   unfolding missing_in
@@ -53,7 +54,7 @@ module _ (t ends : List ℕ) (h : History) (i bar back left : ℕ) (r : Found) w
         rw (grown_operand t ends i left some s (Prev a n) e f)
         (p ∙ ap (λ (j : ℕ). missing_in (by_ends ends) h (flat_operand_at (left - 1) t ends a) j bar (back + n)) at.0)
 
-    pub gone_arith : (kind a b : ℕ) (x y : Found) → s ≡ Arith kind a b → x ≡ missing_in (by_ends ends) h (flat_operand_at (left - 1) t ends a) a bar back
+    pub gone_arith : (kind a b : ℕ) (x y : Option (ℕ × ℕ)) → s ≡ Arith kind a b → x ≡ missing_in (by_ends ends) h (flat_operand_at (left - 1) t ends a) a bar back
         → y ≡ missing_in (by_ends ends) h (flat_operand_at (left - 1) t ends b) b bar back → r ≡ first_found x y
         → r ≡ missing_in (by_ends ends) h (flat_operand_at left t ends i) i bar back
     unfolding missing_in grow_operand OperandPlaced by_ends

@@ -1,7 +1,8 @@
 -- What the line of a node shows, by the node's shape. Assumes nothing.
+use Rattle.std.specs.Prelude.{Float, None, Option, Some, ℕ}
 use Rattle.words.specs.Prelude.{ℕ, ◌-◌, ◌≡◌, sym, ◌∙◌, Bool, true, false, cond, List, [], ◌∷◌, eqb, ltb}
 use Rattle.rows.specs.{History.History}
-use Rattle.rules.specs.{declared.values.Value.Value, declared.position.PositionState.PositionState, declared.shapes.ConditionShape.ConditionShape}
+use Rattle.rules.specs.{declared.position.PositionState.PositionState, declared.shapes.ConditionShape.ConditionShape}
 use Rattle.rules.specs.{declared.shapes.ConditionShape.TheVariants.Compare, declared.shapes.ConditionShape.TheVariants.Cross}
 use Rattle.rules.specs.{declared.shapes.ConditionShape.TheVariants.Between, declared.shapes.ConditionShape.TheVariants.Trend}
 use Rattle.rules.specs.{declared.shapes.ConditionShape.TheVariants.Group, declared.shapes.ConditionShape.TheVariants.Not}
@@ -9,29 +10,28 @@ use Rattle.rules.specs.{declared.shapes.ConditionShape.TheVariants.InPosition, d
 use Rattle.rules.specs.{declared.shapes.ConditionShape.TheVariants.NoCondition, Meaning.value, Shapes.condition_shape, Flat.flat_operand_at, Flat.group}
 use Rattle.rules.specs.{Flat.grow_condition, Flat.flat_condition_at}
 use Rattle.rules.proofs.{Grown.no_condition, Grown.grown_condition}
-use Rattle.chain.specs.{declared.missing.Found.Found, declared.missing.Found.TheVariants.Nowhere, declared.missing.Found.TheVariants.Leaf}
 use Rattle.chain.specs.{declared.shown.Detail.Detail, Missing.first_found, Missing.missing_in, Missing.missing_in_two, Missing.missing_in_three, Chain.shown_by}
 use Rattle.chain.specs.{Chain.shown_since, Chain.shown, Chain.at_first_bar, Chain.too_few_bars, Lines.value_word, Lines.value_words, Lines.detail}
 use Rattle.chain.specs.{Lines.detail_of, Lines.leaf_or, Flat.by_ends, Laws.Shapes.ConditionPlaced, Laws.Shapes.condition_placed}
 
 -- the values, by their words, or the missing leaf
-pub two_shown : (g : Found) (x y : Value) (r : Detail) (p q : ℕ) → p ≡ value_word x → q ≡ value_word y
+pub two_shown : (g : Option (ℕ × ℕ)) (x y : Option Float) (r : Detail) (p q : ℕ) → p ≡ value_word x → q ≡ value_word y
     → r ≡ leaf_or g (record { sort = 1; used = 2; first = p; second = q; third = 0; fourth = 0 }) → r ≡ detail_of (shown_by g (x ∷ y ∷ []))
 unfolding leaf_or shown_by detail_of detail value_words
-two_shown (Leaf node back) x y r p q e f o = o
-two_shown Nowhere x y r p q e f o = o ∙ rw (e, f)
+two_shown (Some (node, back)) x y r p q e f o = o
+two_shown None x y r p q e f o = o ∙ rw (e, f)
 
-pub three_shown : (g : Found) (x y z : Value) (r : Detail) (p q w : ℕ) → p ≡ value_word x → q ≡ value_word y → w ≡ value_word z
+pub three_shown : (g : Option (ℕ × ℕ)) (x y z : Option Float) (r : Detail) (p q w : ℕ) → p ≡ value_word x → q ≡ value_word y → w ≡ value_word z
     → r ≡ leaf_or g (record { sort = 1; used = 3; first = p; second = q; third = w; fourth = 0 }) → r ≡ detail_of (shown_by g (x ∷ y ∷ z ∷ []))
 unfolding leaf_or shown_by detail_of detail value_words
-three_shown (Leaf node back) x y z r p q w e f k o = o
-three_shown Nowhere x y z r p q w e f k o = o ∙ rw (e, f, k)
+three_shown (Some (node, back)) x y z r p q w e f k o = o
+three_shown None x y z r p q w e f k o = o ∙ rw (e, f, k)
 
-pub four_shown : (g : Found) (x y z u : Value) (r : Detail) (p q w k : ℕ) → p ≡ value_word x → q ≡ value_word y → w ≡ value_word z → k ≡ value_word u
+pub four_shown : (g : Option (ℕ × ℕ)) (x y z u : Option Float) (r : Detail) (p q w k : ℕ) → p ≡ value_word x → q ≡ value_word y → w ≡ value_word z → k ≡ value_word u
     → r ≡ leaf_or g (record { sort = 1; used = 4; first = p; second = q; third = w; fourth = k }) → r ≡ detail_of (shown_by g (x ∷ y ∷ z ∷ u ∷ []))
 unfolding leaf_or shown_by detail_of detail value_words
-four_shown (Leaf node back) x y z u r p q w k e f l m o = o
-four_shown Nowhere x y z u r p q w k e f l m o = o ∙ rw (e, f, l, m)
+four_shown (Some (node, back)) x y z u r p q w k e f l m o = o
+four_shown None x y z u r p q w k e f l m o = o ∙ rw (e, f, l, m)
 
 module _ (t ends : List ℕ) (h : History) (s : PositionState) (i bar left : ℕ) (r : Detail) where
   -- with no level left
@@ -40,10 +40,10 @@ module _ (t ends : List ℕ) (h : History) (s : PositionState) (i bar left : ℕ
   shown_deep e p = rw (no_condition t ends i left e) p
 
   -- the missing leaf and the value at a node, with a level less
-  unfoldable pub gone : ℕ → ℕ → Found
+  unfoldable pub gone : ℕ → ℕ → Option (ℕ × ℕ)
   gone j back = missing_in (by_ends ends) h (flat_operand_at (left - 1) t ends j) j bar back
 
-  unfoldable pub worth : ℕ → ℕ → Value
+  unfoldable pub worth : ℕ → ℕ → Option Float
   worth j at = value h (flat_operand_at (left - 1) t ends j) at
 
   module _ (some : left ≡ 0 → ⊥) (sh : ConditionShape) (e : sh ≡ condition_shape t ends i) where

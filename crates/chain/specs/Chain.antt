@@ -1,12 +1,10 @@
 -- "the chain of nodes from the root to what decided". Definitions only.
-use Rattle.std.specs.Prelude.{ℕ, ◌+◌, ◌-◌, Bool, true, false, cond, List, [], ◌∷◌, ltb, eqb}
+use Rattle.std.specs.Prelude.{ℕ, ◌+◌, ◌-◌, Bool, true, false, cond, List, [], ◌∷◌, ltb, eqb, Float, None, Option, Some}
 use Rattle.words.specs.Prelude.{Bool·beq}
 use Rattle.rows.specs.{History.History}
 use Rattle.table.specs.{Trees.Condition, Trees.Conditions, Trees.compare, Trees.cross, Trees.between, Trees.trend, Trees.every, Trees.any, Trees.negated}
 use Rattle.table.specs.{Trees.in_position, Trees.bars_since, Trees.none, Trees.more, Writing.nodes_of}
-use Rattle.rules.specs.{declared.values.Value.Value, declared.position.Entered.Entered, declared.position.Entered.TheVariants.Never}
-use Rattle.rules.specs.{declared.position.Entered.TheVariants.Bar, declared.position.PositionState.PositionState, Values.held, Meaning.value, Meaning.holds}
-use Rattle.chain.specs.{declared.missing.Found.Found, declared.missing.Found.TheVariants.Nowhere, declared.missing.Found.TheVariants.Leaf}
+use Rattle.rules.specs.{declared.position.PositionState.PositionState, Values.held, Meaning.value, Meaning.holds}
 use Rattle.chain.specs.{Missing.Numbering, Missing.first_found, Missing.missing_in, Missing.missing_in_two, Missing.missing_in_three}
 
 -- What a line shows.
@@ -14,7 +12,7 @@ pub data Shown : Type 0 where
   -- All, Any, Not: a link of the chain
   link : Shown
   -- the values compared
-  values : List Value → Shown
+  values : List (Option Float) → Shown
   -- the first missing leaf: its node, and how many bars back it looked
   missing : ℕ → ℕ → Shown
   -- a cross at bar 0
@@ -29,14 +27,14 @@ pub data Shown : Type 0 where
   no_entry : Shown
 
 -- "A comparison shows its values, or the first missing leaf".
-unfoldable pub shown_by : Found → List Value → Shown
-shown_by (Leaf node back) vs = missing node back
-shown_by Nowhere vs = values vs
+unfoldable pub shown_by : Option (ℕ × ℕ) → List (Option Float) → Shown
+shown_by (Some (node, back)) vs = missing node back
+shown_by None vs = values vs
 
 -- "Bars since entry is this bar's number less the entry bar's"; "no when flat or where the state holds no entry bar".
-abbrev pub shown_from : ℕ → Entered → Shown
-shown_from seen Never = no_entry
-shown_from seen (Bar bar) = since_entry (seen - 1 - bar)
+abbrev pub shown_from : ℕ → Option ℕ → Shown
+shown_from seen None = no_entry
+shown_from seen (Some bar) = since_entry (seen - 1 - bar)
 
 unfoldable pub shown_since : PositionState → Shown
 shown_since s = cond (held s.qty) (shown_from s.bars_seen s.entered) no_entry

@@ -1,18 +1,17 @@
 -- The words of a line, and of a list of lines. Definitions only.
-use Rattle.std.specs.Prelude.{ℕ, ◌+◌, ◌*◌, Bool, cond, List, [], ◌∷◌, ◌++◌, length, get_or}
+use Rattle.std.specs.Prelude.{ℕ, ◌+◌, ◌*◌, Bool, cond, List, [], ◌∷◌, ◌++◌, length, get_or, Float, None, Option, Some}
 use Rattle.words.specs.{Words.overwrite}
 use Rattle.floats.specs.{Floats.word_of}
-use Rattle.rules.specs.{declared.values.Value.Value, declared.values.Value.TheVariants.Missing, declared.values.Value.TheVariants.Number}
-use Rattle.chain.specs.{declared.shown.Detail.Detail, declared.missing.Found.Found, declared.missing.Found.TheVariants.Nowhere}
-use Rattle.chain.specs.{declared.missing.Found.TheVariants.Leaf, Chain.Shown, Chain.link, Chain.values, Chain.missing, Chain.at_first_bar}
+use Rattle.chain.specs.{declared.shown.Detail.Detail}
+use Rattle.chain.specs.{Chain.Shown, Chain.link, Chain.values, Chain.missing, Chain.at_first_bar}
 use Rattle.chain.specs.{Chain.too_few_bars, Chain.position, Chain.since_entry, Chain.no_entry, Chain.ChainLine}
 
 -- a value's word; one that is missing, which a line of values never has, would be 0
-unfoldable pub value_word : Value → ℕ
-value_word Missing = 0
-value_word (Number x) = word_of x
+unfoldable pub value_word : Option Float → ℕ
+value_word None = 0
+value_word (Some x) = word_of x
 
-unfoldable pub value_words : List Value → List ℕ
+unfoldable pub value_words : List (Option Float) → List ℕ
 value_words [] = []
 value_words (v ∷ vs) = value_word v ∷ value_words vs
 
@@ -33,9 +32,9 @@ detail_of (since_entry bars) = detail 6 (bars ∷ [])
 detail_of no_entry = detail 7 []
 
 -- the missing leaf where there is one, else what is given
-unfoldable pub leaf_or : Found → Detail → Detail
-leaf_or (Leaf node back) d = detail 2 (node ∷ back ∷ [])
-leaf_or Nowhere d = d
+unfoldable pub leaf_or : Option (ℕ × ℕ) → Detail → Detail
+leaf_or (Some (node, back)) d = detail 2 (node ∷ back ∷ [])
+leaf_or None d = d
 
 -- Decided: "a line is eight words: node, answer (0 or 1), sort, how many of the next four are used, four words".
 abbrev pub line_length : ℕ

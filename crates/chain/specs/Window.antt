@@ -4,7 +4,7 @@ use Rattle.std.specs.Prelude.{ℕ, zero, suc, ◌+◌, ◌-◌, ◌≤◌, ◌<�
 use Rattle.words.specs.Prelude.{arith, le-ltb, leb-false, ne_eqb}
 use Rattle.words.specs.{Limits.trees}
 use Rattle.rows.specs.{History.History, History.history_of, History.last_rows}
-use Rattle.table.specs.{declared.answer.Answer.TheVariants.Accepted, Header.slots, Header.count, Header.root, Checked.checked, Reading.tree_of, Trees.Operand}
+use Rattle.table.specs.{Header.slots, Header.count, Header.root, Checked.checked, Reading.tree_of, Trees.Operand}
 use Rattle.table.specs.{Trees.const, Trees.ref, Trees.price, Trees.prev, Trees.arith as sums, Trees.extreme, Trees.Condition, Trees.Conditions, Trees.compare}
 use Rattle.table.specs.{Trees.cross, Trees.between, Trees.trend, Trees.every, Trees.any, Trees.negated, Trees.in_position, Trees.bars_since, Trees.none}
 use Rattle.table.specs.{Trees.more, Trees.reach, Trees.reach_of, Trees.reach_of_all, Writing.nodes_in, Writing.nodes_of, Series.as_operand}
@@ -13,6 +13,7 @@ use Rattle.rules.specs.{declared.position.PositionState.PositionState, Meaning.n
 use Rattle.rules.specs.{Window.told_of_last, WindowAnswers.window_whole}
 use Rattle.chain.specs.{Missing.in_table, Missing.leaf_gone, Missing.newest_gone, Missing.missing_in, Missing.missing_in_two, Missing.missing_in_three}
 use Rattle.chain.specs.{Chain.shown, Chain.line_at, Chain.chain, Chain.first_with, Explained.explanation, Explained.explained_by, Explained.explained}
+use Rattle.table.specs.{Outcome.accepts}
 
 module _ (h w : History) (s : ℕ) (part : Without h w s) where
   -- an operand at a bar that it does not look back beyond
@@ -131,7 +132,7 @@ chain_window K D ws p c i r =
     told_of_last (λ (h : History). chain in_table h p c i) K D ws (reach_of c) r (λ (h w : History) (s : ℕ) part bar. chain_same h w s part p c i bar)
 
 -- a tree by its number reaches back less than the rows that the table needs
-tree_near : (t : List ℕ) (n r : ℕ) → checked t ≡ Accepted n r → (x : ℕ) → x < 4 → reach_of (tree_of t x) < r
+tree_near : (t : List ℕ) (n r : ℕ) → checked t ≡ accepts n r → (x : ℕ) → x < 4 → reach_of (tree_of t x) < r
 tree_near t n r ok zero l = omega (arith, rows_are t n r ok)
 tree_near t n r ok (suc zero) l = omega (arith, rows_are t n r ok)
 tree_near t n r ok (suc (suc zero)) l = omega (arith, rows_are t n r ok)
@@ -140,7 +141,7 @@ tree_near t n r ok (suc (suc (suc (suc x)))) l = absurd (omega arith)
 
 -- THE WINDOW OF A TABLE: where D is at least the rows that the check says, a tree has over the last D rows the lines that it has over
 -- all of them.
-pub explanation_window : (t : List ℕ) (n r : ℕ) → checked t ≡ Accepted n r → (D : ℕ) → r ≤ D → (x : ℕ) (rows : List ℕ) (s : PositionState)
+pub explanation_window : (t : List ℕ) (n r : ℕ) → checked t ≡ accepts n r → (D : ℕ) → r ≤ D → (x : ℕ) (rows : List ℕ) (s : PositionState)
     → explanation t x (last_rows (slots t) D rows) s ≡ explanation t x rows s
 unfolding explanation
 explanation_window t n r ok D enough x rows s = high (leb trees x) refl
@@ -159,7 +160,7 @@ explanation_window t n r ok D enough x rows s = high (leb trees x) refl
     high false e = rw (same (leb-false trees x e))
 
 -- and the call answers the same
-pub explained_window : (t : List ℕ) (n r : ℕ) → checked t ≡ Accepted n r → (D : ℕ) → r ≤ D → (x : ℕ) (rows : List ℕ) (s : PositionState) (list : List ℕ)
+pub explained_window : (t : List ℕ) (n r : ℕ) → checked t ≡ accepts n r → (D : ℕ) → r ≤ D → (x : ℕ) (rows : List ℕ) (s : PositionState) (list : List ℕ)
     → explained t x (last_rows (slots t) D rows) s list ≡ explained t x rows s list
 unfolding explained explained_by
 explained_window t n r ok D enough x rows s list = rw (ok, window_whole (slots t) D rows, explanation_window t n r ok D enough x rows s)

@@ -8,16 +8,8 @@ use crate::lines::{LINE_WORDS, LINES_ROOM, MOST_LINES};
 use crate::walk::walk;
 use rules::answers::{newest, state_right};
 use rules::position::PositionState;
-use table::answer::Answer;
 use words::limits::{MOST_NESTING, TREES};
 use words::refusal::Refusal;
-
-// How many lines were written, or the refusal.
-#[derive(Clone, Copy)]
-pub enum Explained {
-    Lines(usize),
-    Refuses(Refusal),
-}
 
 // The lines of a tree into the list, and how many they are: none where the tree is absent. For a caller that has the array that a check of the
 // table leaves, and asks more than once.
@@ -57,32 +49,26 @@ pub fn explain_tree(
 
 // Why a tree, by its number, says what it says at the newest row: its lines into the list, and how many they are. A number above 3
 // names no tree.
-pub fn explain(t: &[u8], tree: u64, rows: &[u64], s: PositionState, lines: &mut [u64]) -> Explained
+pub fn explain(t: &[u8], tree: u64, rows: &[u64], s: PositionState, lines: &mut [u64]) -> Result<usize, Refusal>
     ensures value { result ≡ explained t.now tree rows.now s lines.old }
     ensures lines_after { lines.new ≡ lines_after_answer result (explanation t.now tree rows.now s) lines.old }
 {
     let checked = table::check(t);
     let answer = checked.answer;
     match answer {
-        Answer::Refused(refusal) => Explained::Refuses(refusal),
-        Answer::Accepted { nodes: _, rows: _ } => {
+        Err(refusal) => Err(refusal),
+        Ok(_) => {
             if lines.len() < LINE_WORDS * MOST_LINES {
-                return Explained::Refuses(Refusal {
-                    number: 10,
-                    place: LINES_ROOM,
-                });
+                return Err(Refusal::Room(LINES_ROOM));
             }
             let slots = table::header::slots(t) as usize;
             if rows::are_whole(rows, slots) {
                 if state_right(s) {
                     let ends = checked.ends;
-                    return Explained::Lines(explain_tree(t, &ends, tree, rows, s, lines));
+                    return Ok(explain_tree(t, &ends, tree, rows, s, lines));
                 }
             }
-            Explained::Refuses(Refusal {
-                number: 13,
-                place: 0,
-            })
+            Err(Refusal::Records)
         }
     }
 }

@@ -10,24 +10,16 @@ ghost use Rattle.chain.specs.Flat.{by_ends};
 
 use rules::operands::eval_operand;
 use rules::shapes::OperandShape;
-use rules::values::Value;
 use rules::{shapes, values};
 use table::series::{Series, series_in};
 
-// The first missing leaf: its node, and how many bars back it was looked at.
-#[derive(Clone, Copy)]
-pub enum Found {
-    Nowhere,
-    Leaf(usize, usize),
-}
-
 // The one of the two that comes first.
-pub(crate) fn first_found(first: Found, second: Found) -> Found
+pub(crate) fn first_found(first: Option<(usize, usize)>, second: Option<(usize, usize)>) -> Option<(usize, usize)>
     ensures { result ≡ Missing.first_found first second }
 {
     match first {
-        Found::Leaf(node, back) => Found::Leaf(node, back),
-        Found::Nowhere => second,
+        Some((node, back)) => Some((node, back)),
+        None => second,
     }
 }
 
@@ -41,35 +33,35 @@ fn leaf_gone(
     bar: usize,
     back: usize,
     left: usize,
-) -> Found
+) -> Option<(usize, usize)>
     ensures { result ≡ leaf_gone (history_of slots rows.now) (flat_operand_at left t.now ends.now i) i bar back }
 {
     if bar < back {
-        return Found::Leaf(i, back);
+        return Some((i, back));
     }
     match eval_operand(t, ends, rows, slots, i, bar - back, left) {
-        Value::Missing => Found::Leaf(i, back),
-        Value::Number(_) => Found::Nowhere,
+        None => Some((i, back)),
+        Some(_) => None,
     }
 }
 
 // Node i, a price or a slot, where it is missing `back` bars before `bar`.
-fn series_gone(rows: &[u64], slots: usize, over: Series, i: usize, bar: usize, back: usize) -> Found
+fn series_gone(rows: &[u64], slots: usize, over: Series, i: usize, bar: usize, back: usize) -> Option<(usize, usize)>
     ensures { result ≡ leaf_gone (history_of slots rows.now) (as_operand over) i bar back }
 {
     if bar < back {
-        return Found::Leaf(i, back);
+        return Some((i, back));
     }
     let at = bar - back;
     if rows::row_count(rows, slots) <= at {
-        return Found::Leaf(i, back);
+        return Some((i, back));
     }
     match over {
-        Series::Price(_) => Found::Nowhere,
+        Series::Price(_) => None,
         Series::Slot(slot) => {
             match values::slot_at(rows, at * (words::limits::ROW_FIXED + slots), slot) {
-                Value::Missing => Found::Leaf(i, back),
-                Value::Number(_) => Found::Nowhere,
+                None => Some((i, back)),
+                Some(_) => None,
             }
         }
     }
@@ -84,14 +76,14 @@ fn newest_gone(
     bar: usize,
     back: usize,
     more: usize,
-) -> Found
+) -> Option<(usize, usize)>
     requires { back + more ≤ 1099511627776 }
     ensures { result ≡ newest_gone (history_of slots rows.now) (as_operand over) i bar back more }
 {
     for at in back..back + more {
         match series_gone(rows, slots, over, i, bar, at) {
-            Found::Leaf(node, far) => return Found::Leaf(node, far),
-            Found::Nowhere => {}
+            Some((node, far)) => return Some((node, far)),
+            None => {}
         }
     }
     series_gone(rows, slots, over, i, bar, back + more)
@@ -107,7 +99,7 @@ pub(crate) fn first_missing(
     bar: usize,
     back: usize,
     left: usize,
-) -> Found
+) -> Option<(usize, usize)>
     requires { Near back left }
     ensures { result ≡ missing_in (by_ends ends.now) (history_of slots rows.now)
         (flat_operand_at left t.now ends.now i) i bar back }

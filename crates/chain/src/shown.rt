@@ -1,25 +1,21 @@
 // What a line shows, by the shape of its node. `left` is how many levels of nesting are left for the operands.
-ghost use Rattle.std.specs.Prelude.{◌≡◌, cond, [], ◌∷◌, ℕ, ◌-◌, ◌≤◌, eqb, ltb};
+ghost use Rattle.std.specs.Prelude.{◌≡◌, cond, [], ◌∷◌, ℕ, ◌-◌, ◌≤◌, eqb, ltb, Float, Option};
 ghost use Rattle.rows.specs.History.{history_of};
-ghost use Rattle.rules.specs.declared.values.Value.{Value};
 ghost use Rattle.rules.specs.Meaning.{value};
 ghost use Rattle.rules.specs.Flat.{flat_operand_at, flat_condition_at};
-ghost use Rattle.chain.specs.declared.missing.Found.{Found};
 ghost use Rattle.chain.specs.Missing.{Near, missing_in, first_found};
 ghost use Rattle.chain.specs.Chain as Chain;
 ghost use Rattle.chain.specs.Chain.{shown_by, shown_since, shown};
 ghost use Rattle.chain.specs.Lines.{value_word, detail, leaf_or, detail_of};
 ghost use Rattle.chain.specs.Flat.{by_ends};
 
-use crate::lines::{
-    AT_FIRST_BAR, LINK, MISSING, NO_ENTRY, POSITION, SINCE_ENTRY, TOO_FEW_BARS, VALUES,
-};
-use crate::missing::{Found, first_found, first_missing};
+use crate::lines::{AT_FIRST_BAR, LINK, MISSING, NO_ENTRY, POSITION, SINCE_ENTRY, TOO_FEW_BARS, VALUES};
+use crate::missing::{first_found, first_missing};
 use rules::operands::eval_operand;
-use rules::position::{Entered, PositionState};
+use rules::position::PositionState;
 use rules::shapes;
 use rules::shapes::ConditionShape;
-use rules::values::{Value, bars_since, in_position};
+use rules::values::{bars_since, in_position};
 
 // What a line shows: its sort, and how many of the four words are used.
 #[derive(Clone, Copy)]
@@ -45,8 +41,8 @@ fn operand_word(
     ensures { result ≡ value_word (value (history_of slots rows.now) (flat_operand_at left t.now ends.now i) bar) }
 {
     match eval_operand(t, ends, rows, slots, i, bar, left) {
-        Value::Missing => 0,
-        Value::Number(x) => floats::word_of(x),
+        None => 0,
+        Some(x) => floats::word_of(x),
     }
 }
 
@@ -65,11 +61,11 @@ fn bare(sort: u64) -> Detail
 }
 
 // The first missing leaf, or up to four values, of which `used` are used.
-fn leaf_or(gone: Found, used: u64, first: u64, second: u64, third: u64, fourth: u64) -> Detail
+fn leaf_or(gone: Option<(usize, usize)>, used: u64, first: u64, second: u64, third: u64, fourth: u64) -> Detail
     ensures { result ≡ leaf_or gone (record { sort = 1; used = used; first = first; second = second; third = third; fourth = fourth }) }
 {
     match gone {
-        Found::Leaf(node, back) => Detail {
+        Some((node, back)) => Detail {
             sort: MISSING,
             used: 2,
             first: node as u64,
@@ -77,7 +73,7 @@ fn leaf_or(gone: Found, used: u64, first: u64, second: u64, third: u64, fourth: 
             third: 0,
             fourth: 0,
         },
-        Found::Nowhere => Detail {
+        None => Detail {
             sort: VALUES,
             used,
             first,
@@ -99,9 +95,9 @@ fn two_missing(
     bar: usize,
     back: usize,
     left: usize,
-) -> Found
+) -> Option<(usize, usize)>
     requires { Near back left }
-    ensures { (let m : ℕ → Found = λ i. missing_in (by_ends ends.now) (history_of slots rows.now)
+    ensures { (let m : ℕ → Option (ℕ × ℕ) = λ i. missing_in (by_ends ends.now) (history_of slots rows.now)
         (flat_operand_at left t.now ends.now i) i bar back in
         result ≡ first_found (m a) (m b)) }
 {
@@ -122,9 +118,9 @@ fn show_compare(
     left: usize,
 ) -> Detail
     requires { left ≤ 32 }
-    ensures { (let m : ℕ → ℕ → Found = λ i back. missing_in (by_ends ends.now) (history_of slots rows.now)
+    ensures { (let m : ℕ → ℕ → Option (ℕ × ℕ) = λ i back. missing_in (by_ends ends.now) (history_of slots rows.now)
         (flat_operand_at left t.now ends.now i) i bar back in
-        let v : ℕ → ℕ → Value = λ i at. value (history_of slots rows.now) (flat_operand_at left t.now ends.now i) at in
+        let v : ℕ → ℕ → Option Float = λ i at. value (history_of slots rows.now) (flat_operand_at left t.now ends.now i) at in
         result ≡ detail_of (shown_by (first_found (m a 0) (m b 0)) (v a bar ∷ v b bar ∷ []))) }
 {
     let gone = two_missing(t, ends, rows, slots, a, b, bar, 0, left);
@@ -145,9 +141,9 @@ fn show_cross(
     left: usize,
 ) -> Detail
     requires { left ≤ 32 }
-    ensures { (let m : ℕ → ℕ → Found = λ i back. missing_in (by_ends ends.now) (history_of slots rows.now)
+    ensures { (let m : ℕ → ℕ → Option (ℕ × ℕ) = λ i back. missing_in (by_ends ends.now) (history_of slots rows.now)
         (flat_operand_at left t.now ends.now i) i bar back in
-        let v : ℕ → ℕ → Value = λ i at. value (history_of slots rows.now) (flat_operand_at left t.now ends.now i) at in
+        let v : ℕ → ℕ → Option Float = λ i at. value (history_of slots rows.now) (flat_operand_at left t.now ends.now i) at in
         result ≡ detail_of (cond (eqb bar 0) Chain.at_first_bar (shown_by (first_found (first_found (m a 0) (m b 0)) (first_found (m a 1) (m b 1)))
         (v a bar ∷ v b bar ∷ v a (bar - 1) ∷ v b (bar - 1) ∷ [])))) }
 {
@@ -177,9 +173,9 @@ fn show_between(
     left: usize,
 ) -> Detail
     requires { left ≤ 32 }
-    ensures { (let m : ℕ → ℕ → Found = λ i back. missing_in (by_ends ends.now) (history_of slots rows.now)
+    ensures { (let m : ℕ → ℕ → Option (ℕ × ℕ) = λ i back. missing_in (by_ends ends.now) (history_of slots rows.now)
         (flat_operand_at left t.now ends.now i) i bar back in
-        let v : ℕ → ℕ → Value = λ i at. value (history_of slots rows.now) (flat_operand_at left t.now ends.now i) at in
+        let v : ℕ → ℕ → Option Float = λ i at. value (history_of slots rows.now) (flat_operand_at left t.now ends.now i) at in
         result ≡ detail_of (shown_by (first_found (first_found (m x 0) (m low 0)) (m high 0)) (v x bar ∷ v low bar ∷ v high bar ∷ []))) }
 {
     let two = two_missing(t, ends, rows, slots, x, low, bar, 0, left);
@@ -203,9 +199,9 @@ fn show_trend(
     left: usize,
 ) -> Detail
     requires { Near n left }
-    ensures { (let m : ℕ → ℕ → Found = λ i back. missing_in (by_ends ends.now) (history_of slots rows.now)
+    ensures { (let m : ℕ → ℕ → Option (ℕ × ℕ) = λ i back. missing_in (by_ends ends.now) (history_of slots rows.now)
         (flat_operand_at left t.now ends.now i) i bar back in
-        let v : ℕ → ℕ → Value = λ i at. value (history_of slots rows.now) (flat_operand_at left t.now ends.now i) at in
+        let v : ℕ → ℕ → Option Float = λ i at. value (history_of slots rows.now) (flat_operand_at left t.now ends.now i) at in
         result ≡ detail_of (cond (ltb bar n) Chain.too_few_bars (shown_by (first_found (m a 0) (m a n)) (v a bar ∷ v a (bar - n) ∷ [])))) }
 {
     let back = n as usize;
@@ -227,8 +223,8 @@ fn show_since(s: PositionState) -> Detail
     if in_position(s.qty) {
         let entered = s.entered;
         match entered {
-            Entered::Never => bare(NO_ENTRY),
-            Entered::Bar(bar) => Detail {
+            None => bare(NO_ENTRY),
+            Some(bar) => Detail {
                 sort: SINCE_ENTRY,
                 used: 1,
                 first: bars_since(s.bars_seen, bar),

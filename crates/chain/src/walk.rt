@@ -15,13 +15,6 @@ use rules::position::PositionState;
 use rules::shapes;
 use rules::shapes::ConditionShape;
 
-// Where the chain goes from a node: nowhere, or on to one of its children.
-#[derive(Clone, Copy)]
-pub enum Next {
-    Stop,
-    Node(usize),
-}
-
 // The first of n conditions, the first at node `first`, that gives the answer.
 fn first_with(
     answer: bool,
@@ -34,18 +27,18 @@ fn first_with(
     first: usize,
     bar: usize,
     left: usize,
-) -> Next
+) -> Option<usize>
     ensures { result ≡ first_at ends.now
         (λ j. holds (history_of slots rows.now) s (flat_condition_at left t.now ends.now j) bar) answer n first }
 {
     let mut at = first;
     for m in 0..n {
         if eval_condition(t, ends, rows, slots, s, at, bar, left) == answer {
-            return Next::Node(at);
+            return Some(at);
         }
         at = shapes::end_in(ends, at);
     }
-    Next::Stop
+    None
 }
 
 // Where the chain goes from node i.
@@ -58,24 +51,24 @@ fn next_node(
     i: usize,
     bar: usize,
     left: usize,
-) -> Next
+) -> Option<usize>
     ensures { result ≡ next_at left t.now ends.now (history_of slots rows.now) s i bar }
 {
     if left == 0 {
-        return Next::Stop;
+        return None;
     }
     match shapes::condition_shape(t, ends, i) {
         ConditionShape::Group(all, n, first) => {
             first_with(!all, n, t, ends, rows, slots, s, first, bar, left - 1)
         }
-        ConditionShape::Not(a) => Next::Node(a),
-        ConditionShape::Compare(_, _, _) => Next::Stop,
-        ConditionShape::Cross(_, _, _) => Next::Stop,
-        ConditionShape::Between(_, _, _) => Next::Stop,
-        ConditionShape::Trend(_, _, _) => Next::Stop,
-        ConditionShape::InPosition(_) => Next::Stop,
-        ConditionShape::BarsSince(_, _) => Next::Stop,
-        ConditionShape::NoCondition => Next::Stop,
+        ConditionShape::Not(a) => Some(a),
+        ConditionShape::Compare(_, _, _) => None,
+        ConditionShape::Cross(_, _, _) => None,
+        ConditionShape::Between(_, _, _) => None,
+        ConditionShape::Trend(_, _, _) => None,
+        ConditionShape::InPosition(_) => None,
+        ConditionShape::BarsSince(_, _) => None,
+        ConditionShape::NoCondition => None,
     }
 }
 
@@ -141,7 +134,7 @@ pub(crate) fn walk(
 {
     put_line(t, ends, rows, slots, s, i, bar, left, lines, at);
     match next_node(t, ends, rows, slots, s, i, bar, left) {
-        Next::Stop => at + 1,
-        Next::Node(j) => walk(t, ends, rows, slots, s, j, bar, left - 1, lines, at + 1),
+        None => at + 1,
+        Some(j) => walk(t, ends, rows, slots, s, j, bar, left - 1, lines, at + 1),
     }
 }

@@ -2,8 +2,6 @@
 // and goes on with empty books. Its trades are those of the unbroken day.
 use crate::bars::BAR_WORDS;
 use crate::report;
-use engine::answer::Finished;
-use images::reader::Restored;
 use records::state::State;
 use std::io;
 use std::io::Write;
@@ -54,8 +52,8 @@ fn write_image(
 fn say_restored(output: &mut impl Write, area: &[u8]) -> io::Result<()> {
     let mut rows = [0u64; 27];
     match images::restore(crate::settings(), area, &mut rows) {
-        Restored::Refused(refusal) => crate::say_refusal(output, refusal.number, refusal.place),
-        Restored::Done(state) => say_state(output, state),
+        Err(refusal) => crate::say_refusal(output, refusal.number(), refusal.place()),
+        Ok(state) => say_state(output, state),
     }
 }
 
@@ -118,8 +116,8 @@ fn say_trades(
 // The end of the run: its trades.
 fn finished(state: State, rows: &[u64], equity: &mut [u64], trades: &mut [u64]) -> usize {
     match ending::finish(crate::settings(), state, rows, equity, trades) {
-        Finished::Refused(_, _) => 0,
-        Finished::Done(last, _) => {
+        Err((_, _)) => 0,
+        Ok(ended) => {
             let counts = last.counts;
             counts.trades
         }
@@ -149,8 +147,8 @@ fn rest_of_day<'a>(
 ) -> io::Result<usize> {
     let mut rows = [0u64; 27];
     match images::restore(crate::settings(), area, &mut rows) {
-        Restored::Refused(_) => Ok(0),
-        Restored::Done(state) => {
+        Err(_) => Ok(0),
+        Ok(state) => {
             let evening = crate::run_bars(
                 output, state, bars, entry, exit, none, &mut rows, equity, trades,
             )?;

@@ -5,18 +5,15 @@
 mod bars;
 mod loss;
 mod report;
-
-use engine::answer::Finished;
+use words::refusal::Refusal;
+use needed::depth::Needs;
 use metrics::Metrics;
-use needed::depth::DepthAnswer;
 use records::settings::Settings;
 use records::state::State;
 use refusals::day::Span;
 use refusals::lists::Lists;
-use refusals::verdict::Verdict;
 use std::io;
 use std::io::{BufWriter, Write};
-use steps::translated::Translated;
 use table::trees::Tree;
 use words::limits::SETTING_WORDS;
 use words::places;
@@ -58,10 +55,10 @@ pub(crate) fn settings() -> Settings {
 }
 
 // How many bytes of its room a list of steps takes.
-fn bytes_written(answer: Translated) -> usize {
+fn bytes_written(answer: Result<usize, Refusal>) -> usize {
     match answer {
-        Translated::Writes(n) => if n < 1024 { 16 * n } else { 0 },
-        Translated::Refuses(_) => 0,
+        Ok(n) => if n < 1024 { 16 * n } else { 0 },
+        Err(_) => 0,
     }
 }
 
@@ -95,13 +92,13 @@ pub(crate) fn run_bars<'a>(
     );
     let verdict = day.verdict;
     match verdict {
-        Verdict::Fine => report::say_count(
+        Ok(()) => report::say_count(
             output,
             "bars            ",
             day.done as u64,
             " minutes in one call\n",
         )?,
-        Verdict::Bad(refusal) => say_refusal(output, refusal.number, refusal.place)?,
+        Err(refusal) => say_refusal(output, refusal.number(), refusal.place())?,
     }
     Ok(day.state)
 }
@@ -113,8 +110,8 @@ fn say_depth(output: &mut impl Write) -> io::Result<()> {
         "rule table      entry CrossAbove(slot 0, slot 1), exit Lt(close, Prev(close, 2))\n",
     )?;
     match needed::depth::depth(&TABLE, 0) {
-        DepthAnswer::Refuses(refusal) => say_refusal(output, refusal.number, refusal.place),
-        DepthAnswer::Needs { rows, row, window } => {
+        Err(refusal) => say_refusal(output, refusal.number(), refusal.place()),
+        Ok(Needs { rows, row, window }) => {
             report::say_count(
                 output,
                 "accepted        its window is ",
@@ -208,11 +205,11 @@ fn say_end(
     trades: &mut [u64],
 ) -> io::Result<usize> {
     match ending::finish(settings(), state, rows, equity, trades) {
-        Finished::Refused(refusal, _) => {
-            say_refusal(output, refusal.number, refusal.place)?;
+        Err((refusal, _)) => {
+            say_refusal(output, refusal.number(), refusal.place())?;
             Ok(0)
         }
-        Finished::Done(last, figures) => {
+        Ok(ended) => {
             let counts = last.counts;
             say_trades(output, trades, counts.trades)?;
             say_metrics(output, figures)?;

@@ -3,8 +3,7 @@
 // the window and of a dump. The argument is the lookback of a volatility target, which needs one row more than it says where that is more; with
 // none it is 0. The stored input is the worked example of document 01, with a lookback of 10.
 ghost use Rattle.std.specs.Prelude.{◌<◌};
-
-use needed::depth::DepthAnswer;
+use needed::depth::Needs;
 use std::env::Env;
 use std::io;
 
@@ -61,15 +60,15 @@ fn dump_bytes(window: u64) -> u64 {
 fn tell_depth(rt: &impl Print, table: &[u8], lookback: u64) -> io::Result<()> {
     let answer = needed::depth::depth(table, lookback);
     match answer {
-        DepthAnswer::Needs { rows, row, window } => {
+        Ok(Needs { rows, row, window }) => {
             tell(rt, "rows ", rows)?;
             tell(rt, "\nbytes a row ", row)?;
             tell(rt, "\nbytes of the window ", window)?;
             tell(rt, "\nbytes of a dump ", dump_bytes(window))?;
         }
-        DepthAnswer::Refuses(refusal) => {
-            tell(rt, "refused ", refusal.number)?;
-            tell(rt, " at ", refusal.place)?;
+        Err(refusal) => {
+            tell(rt, "refused ", refusal.number())?;
+            tell(rt, " at ", refusal.place())?;
         }
     }
     rt.println("")

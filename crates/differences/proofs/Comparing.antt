@@ -1,13 +1,15 @@
 -- What the comparison answers and leaves, from what was counted: one law for each way out.
+use Rattle.std.specs.Prelude.{Ok, Result, ℕ}
 use Rattle.words.specs.Prelude.{ℕ, ◌+◌, ◌*◌, ◌≤◌, min, ◌≡◌, sym, ap, ◌∙◌, true, false, List, arith, leb-true, leb, length}
 use Rattle.words.specs.{Limits.trade_words, Words.overwrite}
-use Rattle.differences.specs.{declared.compare.Compared.Compared, declared.compare.Compared.TheVariants.Lines, Lines.Line, Lines.points, Lines.trades}
+use Rattle.differences.specs.{Lines.Line, Lines.points, Lines.trades}
 use Rattle.differences.specs.{Lines.first_point, Lines.word_lines, Lines.differences_from, Lines.differences, Lines.words_of, Compared.Comparison}
 use Rattle.differences.specs.{Compared.refused, Compared.written, Laws.Counted.few_lines, Laws.Counted.all_lines}
 use Rattle.differences.specs.{Laws.Written.none_written, Laws.Written.no_lines}
+use Rattle.words.specs.{declared.refusal.Refusal.Refusal}
 
 abbrev told : ℕ → List ℕ → Comparison
-told n room = record { answer = Lines n; room = room }
+told n room = record { answer = Ok n; room = room }
 
 -- what the code counts before it writes a line: points and trades that both have, the first point apart, the lines of one word each, and the words apart
 pub record Counted (e t e' t' : List ℕ) (p n k few words : ℕ) : Type 0 where
@@ -28,7 +30,7 @@ module _ {e t e' t' : List ℕ} {p n k few words : ℕ} (got : Counted e t e' t'
   count : length (differences e t e' t') ≡ few + words
   count = ap length same ∙ many
 
-  pub refuses : leb (5 * (few + words)) (length room) ≡ false → (r : Compared) → r ≡ refused 10 15
+  pub refuses : leb (5 * (few + words)) (length room) ≡ false → (r : Result ℕ Refusal) → r ≡ refused 10 15
       → written (differences e t e' t') room ≡ record { answer = r; room = room }
   unfolding written
   refuses h r said = simp (count, h, said)

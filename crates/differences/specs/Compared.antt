@@ -1,25 +1,25 @@
 -- The comparison and its refusals. Definitions only.
-use Rattle.std.specs.Prelude.{ℕ, ◌*◌, ◌%◌, Bool, cond, ◌&&◌, List, eqb, leb, length}
-use Rattle.words.specs.{Limits.point_words, Limits.trade_words, Outcome.refusal, Words.overwrite}
-use Rattle.differences.specs.{declared.compare.Compared.Compared, declared.compare.Compared.TheVariants.Lines}
-use Rattle.differences.specs.{declared.compare.Compared.TheVariants.Refused, Lines.Line, Lines.line_words, Lines.differences, Lines.words_of}
+use Rattle.std.specs.Prelude.{ℕ, ◌*◌, ◌%◌, Bool, cond, ◌&&◌, List, eqb, leb, length, Err, Ok, Result}
+use Rattle.words.specs.{Limits.point_words, Limits.trade_words, Words.overwrite}
+use Rattle.differences.specs.{Lines.Line, Lines.line_words, Lines.differences, Lines.words_of}
+use Rattle.words.specs.{declared.refusal.Refusal.Refusal}
 
 -- the answer, and the room of the lines as it is left
 pub record Comparison : Type 0 where
-  pub answer : Compared
+  pub answer : Result ℕ Refusal
   pub room : List ℕ
 
 -- "13 .. a row, bar or trade list is not whole records"
 abbrev pub whole : List ℕ → List ℕ → Bool
 whole equity list = eqb (length equity % point_words) 0 && eqb (length list % trade_words) 0
 
-abbrev pub refused : ℕ → ℕ → Compared
-refused number place = Refused (refusal number place)
+abbrev pub refused : ℕ → ℕ → Result ℕ Refusal
+refused number place = Err (refusal number place)
 
 -- the lines that there are, where the room holds them all: "10 if the lent list can't hold them all"
 unfoldable pub written : List Line → List ℕ → Comparison
 written ls room =
-    cond (leb (line_words * length ls) (length room)) (record { answer = Lines (length ls); room = overwrite room 0 (words_of ls) })
+    cond (leb (line_words * length ls) (length room)) (record { answer = Ok (length ls); room = overwrite room 0 (words_of ls) })
     (record { answer = refused 10 15; room = room })
 
 -- "Refusals: 13 here comes first, then 10"; a refusal leaves the room

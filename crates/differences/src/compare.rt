@@ -15,18 +15,11 @@ use words::refusal::Refusal;
 // The room of the lines.
 const LINES_ROOM: u64 = 15;
 
-// How many lines there are, or why there are none.
-#[derive(Clone, Copy)]
-pub enum Compared {
-    Lines(usize),
-    Refused(Refusal),
-}
-
 // Refused: the number and its place.
-fn refused(number: u64, place: u64) -> Compared
+fn refused(number: u64, place: u64) -> Result<usize, Refusal>
     ensures { result ≡ Comparing.refused number place }
 {
-    Compared::Refused(Refusal { number, place })
+    Err(Refusal { number, place })
 }
 
 // Whether both lists of a run are whole records.
@@ -61,14 +54,14 @@ pub fn compare(
     other_equity: &[u64],
     other_trades: &[u64],
     lines: &mut [u64],
-) -> Compared
+) -> Result<usize, Refusal>
     ensures { Comparing.compared equity.now trades.now other_equity.now other_trades.now
         lines.old ≡ record { answer = result; room = lines.new } }
 {
     if whole(equity, trades) && whole(other_equity, other_trades) {
         return compare_whole(equity, trades, other_equity, other_trades, lines);
     }
-    refused(13, 0)
+    Err(Refusal::Records)
 }
 
 // How many lines tell of the equity and of what one run has more, where k is the first of so many points that differs.
@@ -96,7 +89,7 @@ fn compare_whole(
     other_equity: &[u64],
     other_trades: &[u64],
     lines: &mut [u64],
-) -> Compared
+) -> Result<usize, Refusal>
     ensures { Comparing.written (differences equity.now trades.now other_equity.now other_trades.now)
         lines.old ≡ record { answer = result; room = lines.new } }
 {
@@ -108,7 +101,7 @@ fn compare_whole(
     if holds(lines.len(), few, words) {
         let many = few + words;
         if many == 0 {
-            return Compared::Lines(0);
+            return Ok(0);
         }
         put_all(
             equity,
@@ -120,7 +113,7 @@ fn compare_whole(
             n,
             lines,
         );
-        return Compared::Lines(many);
+        return Ok(many);
     }
-    refused(10, LINES_ROOM)
+    Err(Refusal::Room(LINES_ROOM))
 }

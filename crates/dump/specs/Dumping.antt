@@ -1,10 +1,10 @@
 -- What a dump answers and leaves. Definitions only.
 use Rattle.std.specs.Prelude.{ℕ, ◌≡◌, Bool, cond, List, length}
 use Rattle.records.specs.{declared.settings.Settings.Settings, declared.state.State.State, Settings.settings_of, StateWords.state_of}
-use Rattle.refusals.specs.{declared.verdict.Verdict.Verdict}
 use Rattle.images.specs.{Layout.image_of, Refused.left_by}
 use Rattle.dumpable.specs.{Refused.dump_judged, Laws.Passing.words_pass}
 use Rattle.dump.specs.{Order.written}
+use Rattle.refusals.specs.{Lines.Verdict}
 
 -- a dump's verdict, and the area that it leaves
 pub record Dumped (s : Settings) (t : State) (rows area : List ℕ) (from upto : ℕ) (v : Verdict) (after : List ℕ) : Type 0 where

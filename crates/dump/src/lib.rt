@@ -24,9 +24,9 @@ pub fn dump(
 ) -> Verdict
     ensures { Dumped s t rows.now area.old from upto result area.new }
 {
-    if let Verdict::Bad(refusal) = dumpable::judge::judge_dump(s, t, rows, area) {
-        return Verdict::Bad(refusal);
+    if let Err(refusal) = dumpable::judge::judge_dump(s, t, rows, area) {
+        return Err(refusal);
     }
     writer::write_dump(s, t, rows, area, from, upto);
-    Verdict::Fine
+    Ok(())
 }

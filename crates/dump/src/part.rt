@@ -21,17 +21,9 @@ use heads::plain::direct_head;
 use images::layout::HEAD_BYTES;
 use records::settings::Settings;
 use records::state::State;
-use refusals::verdict::Verdict;
 use words::limits::{MOST_ROWS, MOST_SLOTS, ROW_FIXED};
 use words::places;
 use words::refusal::Refusal;
-
-// What a part comes to: how many bytes were written.
-#[derive(Clone, Copy)]
-pub enum Parted {
-    Refused(Refusal),
-    Used(usize),
-}
 
 // The size of the greatest image.
 const MOST_BYTES: usize = HEAD_BYTES + 8 * (MOST_ROWS * (ROW_FIXED + MOST_SLOTS));
@@ -196,11 +188,11 @@ pub fn part_words(
 }
 
 // The same of records, by the lines of the refusals.
-pub fn part(s: Settings, t: State, rows: &[u64], at: usize, part: &mut [u8]) -> Parted
+pub fn part(s: Settings, t: State, rows: &[u64], at: usize, part: &mut [u8]) -> Result<usize, Refusal>
     ensures { PartDumped s t rows.now at part.old result part.new }
 {
-    if let Verdict::Bad(refusal) = judge_held(s, t, rows) {
-        return Parted::Refused(refusal);
+    if let Err(refusal) = judge_held(s, t, rows) {
+        return Err(refusal);
     }
-    Parted::Used(write_part(s, t, rows, at, part))
+    Ok(write_part(s, t, rows, at, part))
 }

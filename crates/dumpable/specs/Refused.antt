@@ -2,21 +2,22 @@
 use Rattle.std.specs.Prelude.{ℕ, List, [], ◌∷◌, ◌++◌, length, leb}
 use Rattle.words.specs.{Limits.most_count}
 use Rattle.records.specs.{declared.settings.Settings.Settings, declared.state.State.State, Lent.rooms}
-use Rattle.refusals.specs.{declared.verdict.Verdict.Verdict}
 use Rattle.refusals.specs.{Lines.Line, Lines.line, Lines.judged, Rooms.room_lines, Rooms.state_lines, Settings.setting_lines}
 use Rattle.engine.specs.{Books.emptied}
 use Rattle.images.specs.{Layout.dump_bytes}
+use Rattle.refusals.specs.{Lines.Verdict}
+use Rattle.words.specs.declared.refusal.Refusal.TheVariants as Refusal
 
 -- "10 if the area is below that size": by D and K as they were given. The area is room 14.
 unfoldable pub area_lines : Settings → List ℕ → List Line
-area_lines s area = line (leb (dump_bytes s.slots s.depth) (length area)) 10 14 ∷ []
+area_lines s area = line (leb (dump_bytes s.slots s.depth) (length area)) (Refusal.Room 14) ∷ []
 
 -- "13: counts in the state exceed the rooms or 4,294,967,295 .. or an entry bar is not below the bars seen": the row room is the only one
 -- that a dump is lent.
 unfoldable pub dump_state_lines : Settings → State → List ℕ → List Line
 dump_state_lines s t rows =
-    line (leb t.counts.equity_points most_count) 13 0
-    ∷ line (leb t.counts.trades most_count) 13 0
+    line (leb t.counts.equity_points most_count) Refusal.Records
+    ∷ line (leb t.counts.trades most_count) Refusal.Records
     ∷ state_lines s (emptied t) (rooms rows [] [])
 
 unfoldable pub dump_lines : Settings → State → List ℕ → List ℕ → List Line

@@ -6,6 +6,7 @@ ghost use Rattle.images.specs.Layout.{dump_bytes};
 ghost use Rattle.dumpable.specs.Refused.{area_lines, dump_state_lines, dump_judged};
 ghost use Rattle.dumpable.specs.Refused.{part_judged};
 
+use words::refusal::Refusal;
 use images::layout::HEAD_BYTES;
 use records::settings::Settings;
 use records::state::{Counts, State};
@@ -39,7 +40,7 @@ fn judge_area(s: Settings, area: &[u8]) -> Verdict
     ensures { result ≡ judged (area_lines s area.now) }
 {
     let enough = has_place(area.len(), s.slots, s.depth);
-    line(enough, 10, AREA, Verdict::Fine)
+    line(enough, Refusal::Room(AREA), Ok(()))
 }
 
 // The state with nothing in its books.
@@ -71,8 +72,8 @@ fn judge_counts(s: Settings, t: State, rows: &[u64]) -> Verdict
     let none: usize = 0;
     let nothing = &rows[none..none];
     let below = judge_state(s, emptied(t), rows, nothing, nothing);
-    let below = line(n.trades as u64 <= MOST_COUNT, 13, 0, below);
-    line(n.equity_points as u64 <= MOST_COUNT, 13, 0, below)
+    let below = line(n.trades as u64 <= MOST_COUNT, Refusal::Records, below);
+    line(n.equity_points as u64 <= MOST_COUNT, Refusal::Records, below)
 }
 
 // All of it.

@@ -4,17 +4,17 @@ ghost use Rattle.records.specs.Lent.{rooms};
 ghost use Rattle.engine.specs.Finish.{last_exit, remarked, end_state, measured, ended};
 ghost use Rattle.engine.specs.Step.{Is};
 
+use portfolio::Closed;
 use engine::answer::Ended;
 use engine::{account, record};
 use execution::costs;
-use execution::fills::Exit;
 use metrics::Metrics;
 use portfolio::END;
 use records::settings::Settings;
 use records::state::{Counts, State};
 
 // The exit at the last close, where a position is open and a bar was seen.
-fn last_exit(s: Settings, t: State) -> Exit
+fn last_exit(s: Settings, t: State) -> Option<Closed>
     ensures { result ≡ last_exit s t }
 {
     if refusals::rooms::to_close(t) {
@@ -22,18 +22,18 @@ fn last_exit(s: Settings, t: State) -> Exit
         let position = t.position;
         let account = position.portfolio;
         let last = t.last;
-        return Exit::Exited(costs::close(account, last.close, last.time, terms.taker_bps, END));
+        return Some(costs::close(account, last.close, last.time, terms.taker_bps, END));
     }
-    Exit::NoExit
+    None
 }
 
 // The last equity point, where there is one, becomes the equity after closing; its time stays.
-fn remark(equity: &mut [u64], n: usize, exit: Exit, close: f64)
+fn remark(equity: &mut [u64], n: usize, exit: Option<Closed>, close: f64)
     ensures { equity.new ≡ remarked equity.old n «exit» close }
 {
     match exit {
-        Exit::NoExit => {}
-        Exit::Exited(c) => {
+        None => {}
+        Some(c) => {
             if n == 0 {
                 return;
             }
@@ -48,7 +48,7 @@ fn remark(equity: &mut [u64], n: usize, exit: Exit, close: f64)
 }
 
 // The state with its position left and its trades counted anew.
-fn end_state(t: State, exit: Exit, trades: usize) -> State
+fn end_state(t: State, exit: Option<Closed>, trades: usize) -> State
     ensures { result ≡ end_state t «exit» trades }
 {
     let n = t.counts;

@@ -5,11 +5,10 @@ mod closing;
 ghost use Rattle.records.specs.Lent.{rooms};
 ghost use Rattle.engine.specs.Finish.{finish_of};
 ghost use Rattle.engine.specs.Step.{Is};
-
-use engine::answer::Finished;
+use words::refusal::Refusal;
+use engine::answer::Ended;
 use records::settings::Settings;
 use records::state::State;
-use refusals::verdict::Verdict;
 
 // The end of a run: an open position is closed at the last close, the last equity point counts its fee, and the figures are made. Of
 // the rows nothing is read: they are handed over so that the state is judged by all the rooms that it counts.
@@ -19,18 +18,18 @@ pub fn finish(
     rows: &[u64],
     equity: &mut [u64],
     trades: &mut [u64],
-) -> Finished
-    ensures { Is Finished (finish_of s t (rooms rows.now equity.old trades.old))
+) -> Result<Ended, (Refusal, State)>
+    ensures { Is (Result Ended (Refusal × State)) (finish_of s t (rooms rows.now equity.old trades.old))
         result rows.now equity.new trades.new }
 {
     let verdict = refusals::judge_finish(s, t, rows, equity, trades);
     match verdict {
-        Verdict::Bad(refusal) => Finished::Refused(refusal, t),
-        Verdict::Fine => {
+        Err(refusal) => Err((refusal, t)),
+        Ok(()) => {
             let ended = closing::conclude(s, t, rows, equity, trades);
             let state = ended.state;
             let metrics = ended.metrics;
-            Finished::Done(state, metrics)
+            Ok(Ended { state: state, metrics: metrics })
         }
     }
 }

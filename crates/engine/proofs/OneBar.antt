@@ -1,17 +1,19 @@
 -- The phases of a step, each by its own definition, make the whole.
+use Rattle.std.specs.Prelude.{Err, Ok, Result}
 use Rattle.words.specs.Prelude.{ℕ, ◌+◌, ◌<◌, ◌≤◌, ◌≡◌, refl, ap, true, false, List}
 use Rattle.rows.specs.{History.history_of, Room.with_row, Room.held_with}
 use Rattle.portfolio.specs.{declared.Candle.Candle}
-use Rattle.words.specs.{declared.refusal.Refusal.Refusal, Limits.most_count, Limits.most_slots, Outcome.refusal}
+use Rattle.words.specs.{declared.refusal.Refusal.Refusal, Limits.most_count, Limits.most_slots}
 use Rattle.records.specs.{declared.state.Order.Order, declared.state.Position.Position, declared.settings.Settings.Settings, declared.state.State.State}
 use Rattle.records.specs.{Bar.candle_of, Lent.Lists, Lent.Rooms}
-use Rattle.refusals.specs.{declared.verdict.Verdict.TheVariants.Fine, declared.verdict.Verdict.TheVariants.Bad, Laws.Fine.step_fine, Lines.judged}
+use Rattle.refusals.specs.{Laws.Fine.step_fine, Lines.judged}
 use Rattle.refusals.specs.{Judgement.step_judged}
-use Rattle.engine.specs.{declared.account.Filled.Filled, declared.account.Left.Left, declared.answer.Answer.Answer}
-use Rattle.engine.specs.{declared.answer.Answer.TheVariants.Refused, declared.answer.Answer.TheVariants.Done, Account.filled, Account.intrabar}
+use Rattle.engine.specs.{declared.account.Filled.Filled, declared.account.Left.Left}
+use Rattle.engine.specs.{Account.filled, Account.intrabar}
 use Rattle.engine.specs.{Account.charged, Books.booked, Books.marked, Decide.decided, Record.row_of, Record.held_rows, Laws.Verdict.handed_bad}
 use Rattle.engine.specs.{Laws.Verdict.handed_fine, Step.Is, Step.fill_of, Step.stepped, Step.answered, Step.size_lines, Step.advanced}
 use Rattle.engine.specs.{Step.step_answer}
+use Rattle.words.specs.declared.refusal.Refusal.TheVariants as Refusal
 
 module _ (s : Settings) (t : State) (bar : List ℕ) (m : Rooms) (ls : Lists) where
   pub phases : (k : Candle) (f : Filled) (x : Left) (p : Position) (o : Order) (atOpen held inside points : ℕ) (ts us ws es : List ℕ)
@@ -45,25 +47,25 @@ module _ (s : Settings) (t : State) (bar : List ℕ) (m : Rooms) (ls : Lists) wh
     same_fill : (fill_of s t bar m).turned_away ≡ f.turned_away
     same_fill = rw (ef, ek)
 
-    pub away : f.turned_away ≡ true → Is Answer (advanced s t bar m ls) (Refused (refusal 16 t.counts.bars_seen) t) m.rows m.equity m.trades
+    pub away : f.turned_away ≡ true → Is (Result State (Refusal × State)) (advanced s t bar m ls) (Err ((Refusal.Quantity t.counts.bars_seen), t)) m.rows m.equity m.trades
     unfolding advanced answered size_lines judged
     away h = rw (same_fill, h) (record { result = refl; rows = refl; equity = refl; trades = refl })
 
     pub goes : f.turned_away ≡ false → (r : State) (ws es us : List ℕ) → Is State (stepped s t bar m ls) r ws es us
-        → Is Answer (advanced s t bar m ls) (Done r) ws es us
+        → Is (Result State (Refusal × State)) (advanced s t bar m ls) (Ok r) ws es us
     unfolding advanced answered size_lines judged
-    goes h r ws es us d = rw (same_fill, h) (record { result = ap Done d.result; rows = d.rows; equity = d.equity; trades = d.trades })
+    goes h r ws es us d = rw (same_fill, h) (record { result = ap Ok d.result; rows = d.rows; equity = d.equity; trades = d.trades })
 
   -- what the judgement has seen to for the phases
-  pub ready : step_judged s t bar m ls ≡ Fine → (s.slots ≤ most_slots) × (t.counts.bars_seen < most_count)
+  pub ready : step_judged s t bar m ls ≡ Ok tt → (s.slots ≤ most_slots) × (t.counts.bars_seen < most_count)
   ready h = let f = step_fine s t bar m ls h in (f.settings.slots, f.bars)
 
-  pub refused : (why : Refusal) → step_judged s t bar m ls ≡ Bad why
-      → Is Answer (step_answer s t bar m ls) (Refused why t) m.rows m.equity m.trades
+  pub refused : (why : Refusal) → step_judged s t bar m ls ≡ Err why
+      → Is (Result State (Refusal × State)) (step_answer s t bar m ls) (Err (why, t)) m.rows m.equity m.trades
   unfolding step_answer answered
   refused why h = rw (handed_bad s t bar m ls why h) (record { result = refl; rows = refl; equity = refl; trades = refl })
 
-  pub went : step_judged s t bar m ls ≡ Fine → (r : Answer) (ws es us : List ℕ) → Is Answer (advanced s t bar m ls) r ws es us
-      → Is Answer (step_answer s t bar m ls) r ws es us
+  pub went : step_judged s t bar m ls ≡ Ok tt → (r : Result State (Refusal × State)) (ws es us : List ℕ) → Is (Result State (Refusal × State)) (advanced s t bar m ls) r ws es us
+      → Is (Result State (Refusal × State)) (step_answer s t bar m ls) r ws es us
   unfolding step_answer advanced
   went h r ws es us d = rw (handed_fine s t bar m ls h) d

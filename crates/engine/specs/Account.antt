@@ -1,26 +1,26 @@
 -- "One bar", what it does to the account: the fill, the exits inside the bar, funding.
-use Rattle.std.specs.Prelude.{ℕ, ◌-◌, false, cond, List, ltb, Float}
+use Rattle.std.specs.Prelude.{ℕ, ◌-◌, false, cond, List, ltb, Float, None, Option, Some}
 use Rattle.rows.specs.{History.History}
-use Rattle.rules.specs.{declared.position.Entered.TheVariants.Never, declared.position.Entered.TheVariants.Bar}
 use Rattle.portfolio.specs.{declared.Candle.Candle, Portfolio.worsened, Trade.signal}
 use Rattle.execution.specs.{declared.fills.Entry.Entry, declared.fills.Entry.TheVariants.NoEntry, declared.fills.Entry.TheVariants.TooLarge}
-use Rattle.execution.specs.{declared.fills.Entry.TheVariants.Entered, declared.fills.Exit.Exit, declared.fills.Exit.TheVariants.NoExit}
-use Rattle.execution.specs.{declared.fills.Exit.TheVariants.Exited, declared.level.Side.Side, declared.level.Side.TheVariants.Long}
-use Rattle.execution.specs.{declared.level.Side.TheVariants.Short, declared.optional.Optional.Optional, declared.optional.Optional.TheVariants.Absent}
-use Rattle.execution.specs.{declared.optional.Optional.TheVariants.Of, declared.level.OrderKind.OrderKind, Level.level_fill, Level.fee_bps, Costs.charge_funding}
+use Rattle.execution.specs.{declared.fills.Entry.TheVariants.Entered}
+use Rattle.execution.specs.{declared.level.Side.Side, declared.level.Side.TheVariants.Long}
+use Rattle.execution.specs.{declared.level.Side.TheVariants.Short}
+use Rattle.execution.specs.{declared.level.OrderKind.OrderKind, Level.level_fill, Level.fee_bps, Costs.charge_funding}
 use Rattle.execution.specs.{Fills.execute_entry, Fills.execute_exit, Fills.is_turned_away, Intrabar.extreme_with, Intrabar.apply_intrabar_exits}
 use Rattle.records.specs.{declared.state.Order.Order, declared.state.Order.TheVariants.Idle, declared.state.Order.TheVariants.EnterLong}
 use Rattle.records.specs.{declared.state.Order.TheVariants.EnterShort, declared.state.Order.TheVariants.Exit as ExitOrder, declared.state.Position.Position}
 use Rattle.records.specs.{declared.settings.Settings.Settings, Bar.funding_of}
 use Rattle.engine.specs.{declared.account.Due.Due, declared.account.Due.TheVariants.Waits, declared.account.Due.TheVariants.Enters}
 use Rattle.engine.specs.{declared.account.Due.TheVariants.Leaves, declared.account.Filled.Filled, declared.account.Left.Left}
+use Rattle.portfolio.specs.{declared.Closed.Closed}
 
 -- ---- a position that is left
 
 -- `pf.exit(..);  entry_bar = None;`
-unfoldable pub leaving : Position → Exit → Position
-leaving p NoExit = p
-leaving p (Exited c) = record { portfolio = c.portfolio; entered = Never; extreme = p.extreme }
+unfoldable pub leaving : Position → Option Closed → Position
+leaving p None = p
+leaving p (Some c) = record { portfolio = c.portfolio; entered = None; extreme = p.extreme }
 
 -- ---- fill
 
@@ -28,11 +28,11 @@ leaving p (Exited c) = record { portfolio = c.portfolio; entered = Never; extrem
 unfoldable pub entering : Position → Entry → ℕ → Position
 entering p NoEntry number = p
 entering p TooLarge number = p
-entering p (Entered portfolio fill) number = record { portfolio = portfolio; entered = Bar number; extreme = fill }
+entering p (Entered portfolio fill) number = record { portfolio = portfolio; entered = Some number; extreme = fill }
 
 -- nothing happens but to the order
 abbrev pub waiting : Order → Position → Filled
-waiting order p = record { order = order; position = p; «exit» = NoExit; turned_away = false }
+waiting order p = record { order = order; position = p; «exit» = None; turned_away = false }
 
 -- at the raw price that the order's kind gives, "with the rate of `slippage_rate`"; "Realized volatility reads the rows before this bar."
 -- Decided: an order filled or dropped no longer works.
@@ -40,7 +40,7 @@ unfoldable pub entry_filled : Side → OrderKind → Float → Settings → Posi
 entry_filled side kind price s p k before number =
     let bps = fee_bps kind s.entries.maker_bps s.terms.taker_bps in
     let e = execute_entry side price bps s.terms k p.portfolio before in
-    record { order = Idle; position = entering p e number; «exit» = NoExit; turned_away = is_turned_away e }
+    record { order = Idle; position = entering p e number; «exit» = None; turned_away = is_turned_away e }
 
 -- an open position takes this bar. Request 6: "the least favourable price from the entry bar on .. up to and with the closing bar"
 unfoldable pub facing : Position → Candle → Position
@@ -54,9 +54,9 @@ exit_filled s p k =
     record { order = Idle; position = leaving q x; «exit» = x; turned_away = false }
 
 -- What is due at a bar: an entry where it is reached, at its price; ".. else works on unchanged"
-unfoldable pub due_if_reached : Side → OrderKind → Order → Optional → Due
-due_if_reached side kind order Absent = Waits order
-due_if_reached side kind order (Of price) = Enters side kind price
+unfoldable pub due_if_reached : Side → OrderKind → Order → Option Float → Due
+due_if_reached side kind order None = Waits order
+due_if_reached side kind order (Some price) = Enters side kind price
 
 -- "Fill: a delay above 0 counts down by 1; otherwise at the open", or where the bar reaches the level
 unfoldable pub due_of : Order → Candle → Due

@@ -1,11 +1,11 @@
 -- The books of a run: its equity points and its trades, and the rooms that hold them.
-use Rattle.std.specs.Prelude.{ℕ, ◌+◌, ◌*◌, cond, List, [], ◌∷◌, ltb, Float, take}
+use Rattle.std.specs.Prelude.{ℕ, ◌+◌, ◌*◌, cond, List, [], ◌∷◌, ltb, Float, take, None, Option, Some}
 use Rattle.floats.specs.{Floats.word_of}
 use Rattle.words.specs.{Words.overwrite}
 use Rattle.portfolio.specs.{declared.Candle.Candle, declared.Trade.Trade, Portfolio.equity, Trade.words_of_trade}
-use Rattle.execution.specs.{declared.fills.Exit.Exit, declared.fills.Exit.TheVariants.NoExit, declared.fills.Exit.TheVariants.Exited}
 use Rattle.records.specs.{declared.state.Position.Position, declared.state.State.State, Lent.Rooms, Lent.point_places, Lent.trade_places}
 use Rattle.words.specs.Limits as Limits
+use Rattle.portfolio.specs.{declared.Closed.Closed}
 
 -- ---- points and trades
 
@@ -27,9 +27,9 @@ last_becomes (p ∷ []) e = record { time = p.time; equity = e } ∷ []
 last_becomes (p ∷ (q ∷ ps)) e = p ∷ last_becomes (q ∷ ps) e
 
 -- the trade of an exit, where there is one
-unfoldable pub trades_of : Exit → List Trade
-trades_of NoExit = []
-trades_of (Exited c) = c.trade ∷ []
+unfoldable pub trades_of : Option Closed → List Trade
+trades_of None = []
+trades_of (Some c) = c.trade ∷ []
 
 -- ---- their rooms
 
@@ -40,9 +40,9 @@ pub record Held : Type 0 where
 
 -- "A trade record grows from eight words to ten". One that finds no place is not kept: no step that is
 -- not refused comes to that.
-unfoldable pub booked : List ℕ → ℕ → Exit → Held
-booked room n NoExit = record { count = n; room = room }
-booked room n (Exited c) =
+unfoldable pub booked : List ℕ → ℕ → Option Closed → Held
+booked room n None = record { count = n; room = room }
+booked room n (Some c) =
     cond (ltb n (trade_places room))
     (record { count = n + 1; room = overwrite room (n * Limits.trade_words) (words_of_trade c.trade) })
     (record { count = n; room = room })

@@ -1,13 +1,14 @@
 -- What is said of a box, a state and its rooms, and of two of them. Definitions only.
-use Rattle.std.specs.Prelude.{ℕ, ◌+◌, ◌*◌, ◌≤◌, ◌≡◌, List, ◌++◌, length, drop}
+use Rattle.std.specs.Prelude.{ℕ, ◌+◌, ◌*◌, ◌≤◌, ◌≡◌, List, ◌++◌, length, drop, Err}
 use Rattle.words.specs.Prelude.{flat_map}
 use Rattle.words.specs.{declared.refusal.Refusal.Refusal}
 use Rattle.portfolio.specs.{declared.Trade.Trade, Trade.words_of_trade}
 use Rattle.records.specs.{declared.settings.Settings.Settings, declared.state.State.State, Lent.Rooms, Lent.row_places, Lent.point_places, Lent.trade_places}
-use Rattle.refusals.specs.{declared.verdict.Verdict.Verdict, declared.verdict.Verdict.TheVariants.Bad}
 use Rattle.engine.specs.{Books.Point, Books.words_of_point, Books.held_points, Books.held_trades, Whole.Account, Whole.account_of, Whole.rows_held}
 use Rattle.engine.specs.{Whole.last_of, Whole.Ledger}
 use Rattle.words.specs.Limits as Limits
+use Rattle.refusals.specs.{Lines.Verdict}
+use Rattle.words.specs.{Outcome.number_of}
 
 -- ---- a box and its rooms
 
@@ -85,4 +86,4 @@ pub record SameCounts (t : State) (m : Rooms) (t' : State) (m' : Rooms) : Type 0
 
 -- not refused with 14
 unfoldable pub NotFull : Verdict → Type 0
-NotFull v = (why : Refusal) → v ≡ Bad why → why.number ≡ 14 → ⊥
+NotFull v = (why : Refusal) → v ≡ Err why → number_of why ≡ 14 → ⊥

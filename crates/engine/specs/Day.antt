@@ -1,12 +1,12 @@
 -- Request 3, a whole day in one call. "Take many bars at once. State, trades, equity and window afterwards equal calling once a bar. At the
 -- first bar that would be refused it stops: earlier bars stay done, and the answer gives the number, the place and how many were done."
-use Rattle.std.specs.Prelude.{ℕ, zero, suc, ◌/◌, ◌≡◌, Bool, false, cond, List, [], ◌∷◌, eqb, length, take, drop}
+use Rattle.std.specs.Prelude.{ℕ, zero, suc, ◌/◌, ◌≡◌, Bool, false, cond, List, [], ◌∷◌, eqb, length, take, drop, Err, Ok}
 use Rattle.words.specs.{Limits.bar_words, declared.refusal.Refusal.Refusal}
 use Rattle.records.specs.{declared.settings.Settings.Settings, declared.state.State.State, Lent.Lists, Lent.Rooms}
-use Rattle.refusals.specs.{declared.verdict.Verdict.Verdict, declared.verdict.Verdict.TheVariants.Fine, declared.verdict.Verdict.TheVariants.Bad}
 use Rattle.refusals.specs.{Day.whole_bars, Laws.Steady.Steady, Lines.judged, Lists.list_lines}
 use Rattle.engine.specs.{declared.day.Day.Day, Run.Run, Run.run_over}
 use Rattle.refusals.specs.{declared.day.Span.Span, declared.day.Span.TheVariants.One, declared.day.Span.TheVariants.Many}
+use Rattle.refusals.specs.{Lines.Verdict}
 
 -- the first n records of a list, each of w words
 unfoldable pub in_records : ℕ → ℕ → List ℕ → List (List ℕ)
@@ -38,14 +38,14 @@ run_with d m = record { done = d.done; verdict = d.verdict; state = d.state; roo
 
 -- a call whose first bar is refused
 abbrev pub first_refused : State → Refusal → Day
-first_refused t why = record { done = 0; verdict = Bad why; state = t }
+first_refused t why = record { done = 0; verdict = Err why; state = t }
 
 -- 15 comes last: where the first bar is refused with another number, that is given
 unfoldable pub unlisted_by : Verdict → State → Refusal → Day
-unlisted_by (Bad why) t fifteen = first_refused t why
-unlisted_by Fine t fifteen = first_refused t fifteen
+unlisted_by (Err why) t fifteen = first_refused t why
+unlisted_by (Ok tt) t fifteen = first_refused t fifteen
 
 -- what was looked at once, and stays fine from bar to bar: what Steady says, and the lists
 pub record Underway (s : Settings) (t : State) (m : Rooms) (ls : Lists) : Type 0 where
   pub steady : Steady s t m
-  pub lists : judged (list_lines s.slots s.depth ls) ≡ Fine
+  pub lists : judged (list_lines s.slots s.depth ls) ≡ Ok tt

@@ -1,32 +1,35 @@
 -- The end of a run.
-use Rattle.std.specs.Prelude.{ℕ, ◌+◌, ◌-◌, ◌*◌, cond, List, ltb, Float, take, set}
+use Rattle.std.specs.Prelude.{ℕ, ◌+◌, ◌-◌, ◌*◌, cond, List, ltb, Float, take, set, Err, None, Ok, Option, Result, Some}
 use Rattle.floats.specs.{Floats.word_of}
 use Rattle.portfolio.specs.{Portfolio.equity, Trade.end}
-use Rattle.execution.specs.{declared.fills.Exit.Exit, declared.fills.Exit.TheVariants.NoExit, declared.fills.Exit.TheVariants.Exited, Costs.closed}
+use Rattle.execution.specs.{Costs.closed}
 use Rattle.metrics.specs.{declared.Metrics.Metrics, Figures.metrics_of, Records.equity_of, Records.pnls_of}
 use Rattle.records.specs.{declared.settings.Settings.Settings, declared.state.State.State, Lent.Rooms}
-use Rattle.refusals.specs.{declared.verdict.Verdict.Verdict, declared.verdict.Verdict.TheVariants.Fine, declared.verdict.Verdict.TheVariants.Bad}
 use Rattle.refusals.specs.{Judgement.finish_judged, Rooms.to_close}
-use Rattle.engine.specs.{declared.answer.Ended.Ended, declared.answer.Finished.Finished, declared.answer.Finished.TheVariants.Refused}
-use Rattle.engine.specs.{declared.answer.Finished.TheVariants.Done, Account.leaving, Books.booked, Step.With}
+use Rattle.engine.specs.{declared.answer.Ended.Ended}
+use Rattle.engine.specs.{Account.leaving, Books.booked, Step.With}
 use Rattle.words.specs.Limits as Limits
+use Rattle.engine.specs.{Ended.ended}
+use Rattle.refusals.specs.{Lines.Verdict}
+use Rattle.words.specs.{declared.refusal.Refusal.Refusal}
+use Rattle.portfolio.specs.{declared.Closed.Closed}
 
 -- "Finish closes an open position, if a bar was seen, at the last close with a taker fee, reason end."
-unfoldable pub last_exit : Settings → State → Exit
+unfoldable pub last_exit : Settings → State → Option Closed
 last_exit s t =
     cond (to_close t)
-    (Exited (closed t.position.portfolio t.last.close t.last.time s.terms.taker_bps end))
-    NoExit
+    (Some (closed t.position.portfolio t.last.close t.last.time s.terms.taker_bps end))
+    None
 
 -- "If finish closes a position, the last equity point, where there is one, becomes the equity after closing" (request 7): the account's
 -- at the last close, with nothing open. The point's time stays.
-unfoldable pub remarked : List ℕ → ℕ → Exit → Float → List ℕ
-remarked room points NoExit close = room
-remarked room points (Exited c) close =
+unfoldable pub remarked : List ℕ → ℕ → Option Closed → Float → List ℕ
+remarked room points None close = room
+remarked room points (Some c) close =
     cond (ltb 0 points) (set room ((points - 1) * Limits.point_words + 1) (word_of (equity c.portfolio close))) room
 
 -- what is left of the state: the position is left, and the trade is counted
-unfoldable pub end_state : State → Exit → ℕ → State
+unfoldable pub end_state : State → Option Closed → ℕ → State
 end_state t x trades = record {
   counts = record {
     bars_seen = t.counts.bars_seen;
@@ -56,9 +59,9 @@ ended s t m =
     }
 
 -- The paper's values for each case of the answer.
-unfoldable pub concluded : Verdict → State → Rooms → With Ended → With Finished
-concluded (Bad why) t m done = record { result = Refused why t; rooms = m }
-concluded Fine t m done = record { result = Done done.result.state done.result.metrics; rooms = done.rooms }
+unfoldable pub concluded : Verdict → State → Rooms → With Ended → With (Result Ended (Refusal × State))
+concluded (Err why) t m done = record { result = Err (why, t); rooms = m }
+concluded (Ok tt) t m done = record { result = ended done.result.state done.result.metrics; rooms = done.rooms }
 
-unfoldable pub finish_of : Settings → State → Rooms → With Finished
+unfoldable pub finish_of : Settings → State → Rooms → With (Result Ended (Refusal × State))
 finish_of s t m = concluded (finish_judged s t m) t m (ended s t m)

@@ -1,16 +1,17 @@
 -- Rows that do not move. Within a call of many bars a full room is a ring: a row goes over the oldest, and the rows that are held begin at row `start`
 -- of the room. What the room would be had the rows moved is the room turned so that row `start` stands first. Definitions only.
-use Rattle.std.specs.Prelude.{ℕ, ◌+◌, ◌<◌, ◌≤◌, ◌≡◌, cond, List, length, eqb, Float}
+use Rattle.std.specs.Prelude.{ℕ, ◌+◌, ◌<◌, ◌≤◌, ◌≡◌, cond, List, length, eqb, Float, Err, Ok, Result}
 use Rattle.words.specs.{Limits.most_count, Limits.most_slots, Limits.row_words, Words.overwrite, Words.shifted}
 use Rattle.rows.specs.{declared.ring.Ring.Ring, History.width, History.last_rows, Laws.Ring.RingFine, Ring.ring_of, Ring.turned, Ring.ring_with, Ring.ring_after}
 use Rattle.rows.specs.{Room.with_row, Room.held_with}
 use Rattle.records.specs.{declared.settings.Settings.Settings, declared.state.Order.Order, declared.state.Position.Position, declared.state.State.State}
 use Rattle.records.specs.{Lent.Lists, Lent.row_places}
-use Rattle.refusals.specs.{declared.verdict.Verdict.TheVariants.Fine, Lines.judged, Lists.list_lines}
-use Rattle.engine.specs.{declared.answer.Advanced.Advanced, declared.answer.Answer.Answer, declared.record.Place.Place}
-use Rattle.engine.specs.{declared.answer.Answer.TheVariants.Refused, declared.answer.Answer.TheVariants.Done, Decide.answers_of, Decide.state_at}
+use Rattle.refusals.specs.{Lines.judged, Lists.list_lines}
+use Rattle.engine.specs.{declared.answer.Advanced.Advanced, declared.record.Place.Place}
+use Rattle.engine.specs.{Decide.answers_of, Decide.state_at}
 use Rattle.engine.specs.{Decide.order_after, Step.With, Step.Is}
 use Rattle.refusals.specs.{declared.day.Span.Span, declared.day.Span.TheVariants.One, declared.day.Span.TheVariants.Many}
+use Rattle.words.specs.{declared.refusal.Refusal.Refusal}
 
 -- a row added to the rows `before`: where the call has one bar they move up, else it goes over the oldest
 unfoldable pub kept_ring : Span → List ℕ → Ring → List ℕ → Ring
@@ -50,14 +51,14 @@ pub record Ready (span : Span) (s : Settings) (t : State) (bar rows : List ℕ) 
   pub bars : t.counts.bars_seen < most_count
   pub long : row_words s.slots ≤ length bar
   pub at : RingAt span s t rows start
-  pub lists : judged (list_lines s.slots s.depth ls) ≡ Fine
+  pub lists : judged (list_lines s.slots s.depth ls) ≡ Ok tt
 
 -- the state that an answer hands back
-abbrev pub answer_state : Answer → State
-answer_state (Refused why t) = t
-answer_state (Done t) = t
+abbrev pub answer_state : Result State (Refusal × State) → State
+answer_state (Err (why, t)) = t
+answer_state (Ok t) = t
 
 -- each part is the definition's, for rows that stand with the oldest first
-pub record Turns (span : Span) (s : Settings) (d : With Answer) (r : Advanced) (ws es ts : List ℕ) : Type 0 where
-  pub answer : Is Answer d r.answer (turned (width s.slots) r.start ws) es ts
+pub record Turns (span : Span) (s : Settings) (d : With (Result State (Refusal × State))) (r : Advanced) (ws es ts : List ℕ) : Type 0 where
+  pub answer : Is (Result State (Refusal × State)) d r.answer (turned (width s.slots) r.start ws) es ts
   pub at : RingAt span s (answer_state r.answer) ws r.start

@@ -1,13 +1,14 @@
 -- The rules of a table and what they mean, and the settings and lists that belong to a table.
 use Rattle.std.specs.Prelude.{ℕ, ◌<◌, ◌≡◌, List}
 use Rattle.rows.specs.{History.History}
-use Rattle.table.specs.{declared.answer.Answer.TheVariants.Accepted, Checked.checked, Header.slots, Reading.tree_of, Trees.Condition, Trees.reach_of}
+use Rattle.table.specs.{Checked.checked, Header.slots, Reading.tree_of, Trees.Condition, Trees.reach_of}
 use Rattle.table.specs.{Bytes.Bytes}
 use Rattle.rules.specs.{declared.position.PositionState.PositionState}
 use Rattle.steps.specs.{Bytes.bytes_of, Translating.steps_of}
 use Rattle.records.specs.{declared.settings.Settings.Settings, Lent.Lists}
 use Rattle.engine.specs.{Decide.Answers}
 use Rattle.rules.specs.Meaning as Meaning
+use Rattle.table.specs.{Outcome.accepts}
 
 -- the rules of a table, in tree order
 pub record Rules : Type 0 where
@@ -43,7 +44,7 @@ pub record FromTable (table : List ℕ) (s : Settings) (ls : Lists) : Type 0 whe
   pub nodes : ℕ
   pub rows : ℕ
   pub bytes : Bytes table
-  pub accepted : checked table ≡ Accepted nodes rows
+  pub accepted : checked table ≡ accepts nodes rows
   pub slots : s.slots ≡ slots table
   pub depth : (x : ℕ) → x < 4 → reach_of (tree_of table x) < s.depth
   pub lists : ls ≡ lists_of table

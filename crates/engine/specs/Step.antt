@@ -1,13 +1,15 @@
 -- One bar. "Order, as in `step_with_feeds`: fill the working order, record the row, intrabar exits, funding, equity at the
 -- close, decide."
-use Rattle.std.specs.Prelude.{ℕ, ◌+◌, ◌≡◌, not, List, [], ◌∷◌, ◌++◌}
+use Rattle.std.specs.Prelude.{ℕ, ◌+◌, ◌≡◌, not, List, [], ◌∷◌, ◌++◌, Err, Ok, Result}
 use Rattle.rows.specs.{History.history_of, Room.with_row, Room.held_with}
 use Rattle.records.specs.{declared.settings.Settings.Settings, declared.state.State.State, Bar.candle_of, Lent.Lists, Lent.Rooms}
-use Rattle.refusals.specs.{declared.verdict.Verdict.Verdict, declared.verdict.Verdict.TheVariants.Fine, declared.verdict.Verdict.TheVariants.Bad, Lines.Line}
+use Rattle.refusals.specs.{Lines.Line}
 use Rattle.refusals.specs.{Lines.line, Lines.judged, Judgement.step_lines}
-use Rattle.engine.specs.{declared.answer.Answer.Answer, declared.answer.Answer.TheVariants.Refused, declared.answer.Answer.TheVariants.Done}
 use Rattle.engine.specs.{declared.account.Filled.Filled, Account.filled, Account.intrabar, Account.charged, Books.booked, Books.marked, Decide.decided}
 use Rattle.engine.specs.{Record.row_of, Record.held_rows}
+use Rattle.refusals.specs.{Lines.Verdict}
+use Rattle.words.specs.{declared.refusal.Refusal.Refusal}
+use Rattle.words.specs.declared.refusal.Refusal.TheVariants as Refusal
 
 -- a result with what is in the rooms then
 pub record With (A : Type 0) : Type 0 where
@@ -45,23 +47,23 @@ stepped s t bar m ls =
 
 -- The paper's values for each case of the answer. "A refusal returns number, place and the state it was given, and changes
 -- nothing lent."
-unfoldable pub answered : Verdict → State → Rooms → With State → With Answer
-answered (Bad why) t m done = record { result = Refused why t; rooms = m }
-answered Fine t m done = record { result = Done done.result; rooms = done.rooms }
+unfoldable pub answered : Verdict → State → Rooms → With State → With (Result State (Refusal × State))
+answered (Err why) t m done = record { result = Err (why, t); rooms = m }
+answered (Ok tt) t m done = record { result = Ok done.result; rooms = done.rooms }
 
 -- "too large a quotient gives 16 at bars seen, after 15, and the step changes nothing"
 unfoldable pub size_lines : Settings → State → List ℕ → Rooms → List Line
-size_lines s t bar m = line (not (fill_of s t bar m).turned_away) 16 t.counts.bars_seen ∷ []
+size_lines s t bar m = line (not (fill_of s t bar m).turned_away) (Refusal.Quantity t.counts.bars_seen) ∷ []
 
 -- of a step that was handed what it can use
-unfoldable pub advanced : Settings → State → List ℕ → Rooms → Lists → With Answer
+unfoldable pub advanced : Settings → State → List ℕ → Rooms → Lists → With (Result State (Refusal × State))
 advanced s t bar m ls = answered (judged (size_lines s t bar m)) t m (stepped s t bar m ls)
 
 -- "10, 12, 13, 14, 11, 15", then 16
 unfoldable pub step_verdict : Settings → State → List ℕ → Rooms → Lists → Verdict
 step_verdict s t bar m ls = judged (step_lines s t bar m ls ++ size_lines s t bar m)
 
-unfoldable pub step_answer : Settings → State → List ℕ → Rooms → Lists → With Answer
+unfoldable pub step_answer : Settings → State → List ℕ → Rooms → Lists → With (Result State (Refusal × State))
 step_answer s t bar m ls = answered (step_verdict s t bar m ls) t m (stepped s t bar m ls)
 
 -- each part is the definition's

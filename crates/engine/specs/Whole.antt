@@ -1,16 +1,16 @@
 -- A run that keeps every row: what a bar does to an account, over all rows before it, and what it adds to the books.
-use Rattle.std.specs.Prelude.{ℕ, ◌+◌, List, [], ◌∷◌, ◌++◌, Float}
+use Rattle.std.specs.Prelude.{ℕ, ◌+◌, List, [], ◌∷◌, ◌++◌, Float, None, Option, Some}
 use Rattle.words.specs.Prelude.{flat_map}
 use Rattle.rows.specs.{History.History, History.history_of, History.last_rows}
 use Rattle.rules.specs.{declared.position.PositionState.PositionState}
 use Rattle.portfolio.specs.{declared.Candle.Candle, declared.Trade.Trade, Portfolio.equity, Trade.words_of_trade}
-use Rattle.execution.specs.{declared.fills.Exit.Exit, declared.fills.Exit.TheVariants.NoExit, declared.fills.Exit.TheVariants.Exited}
 use Rattle.metrics.specs.{declared.Metrics.Metrics, Figures.metrics_of, Records.equity_of, Records.pnls_of}
 use Rattle.records.specs.{declared.settings.Settings.Settings, declared.state.Last.Last, declared.state.Order.Order, declared.state.Position.Position}
 use Rattle.records.specs.{declared.state.State.State, Bar.candle_of, Lent.Lists, Lent.Rooms, State.fresh_state}
 use Rattle.engine.specs.{declared.account.Filled.Filled, Account.leaving, Account.filled, Account.intrabar, Account.charged, Books.Point, Books.point_of}
 use Rattle.engine.specs.{Books.words_of_point, Books.last_becomes, Books.trades_of, Decide.Answers, Decide.answers_of, Decide.state_at, Decide.order_after}
 use Rattle.engine.specs.{Finish.last_exit, Record.row_of, Record.held_rows, Rules.Rules, Rules.rules_of, Rules.meanings}
+use Rattle.portfolio.specs.{declared.Closed.Closed}
 
 -- ---- the account
 
@@ -118,9 +118,9 @@ state_of_account a = record {
 }
 
 -- "If finish closes a position, the last equity point, where there is one, becomes the equity after closing"
-unfoldable pub end_points : List Point → Exit → Float → List Point
-end_points ps NoExit close = ps
-end_points ps (Exited c) close = last_becomes ps (equity c.portfolio close)
+unfoldable pub end_points : List Point → Option Closed → Float → List Point
+end_points ps None close = ps
+end_points ps (Some c) close = last_becomes ps (equity c.portfolio close)
 
 -- "Finish closes an open position, if a bar was seen, at the last close with a taker fee, reason end."
 unfoldable pub whole_end : Settings → Ledger → Ledger

@@ -11,23 +11,22 @@ ghost use Rattle.engine.specs.Account as Account;
 ghost use Rattle.engine.specs.Account.{leaving, facing, entering, due_if_reached, due_of, charged};
 ghost use Rattle.engine.specs.Books.{booked, marked};
 
+use portfolio::Closed;
 use crate::{record, terms};
-use execution::fills::{Entry, Exit};
+use execution::fills::Entry;
 use execution::level::{OrderKind, Side};
-use execution::optional::Optional;
 use execution::{costs, fills, intrabar, level};
 use portfolio::{Candle, Portfolio, SIGNAL};
 use records::settings::Settings;
 use records::state::{Counts, Order, Position};
 use rows::ring::Ring;
-use rules::position::Entered;
 
 // The fill's order and position, the trade where it closed one, and whether its quantity is too large: the step is then refused.
 #[derive(Clone, Copy)]
 pub struct Filled {
     pub order: Order,
     pub position: Position,
-    pub exit: Exit,
+    pub exit: Option<Closed>,
     pub turned_away: bool,
 }
 
@@ -43,20 +42,20 @@ pub enum Due {
 #[derive(Clone, Copy)]
 pub struct Left {
     pub position: Position,
-    pub exit: Exit,
+    pub exit: Option<Closed>,
 }
 
 // A position that was left has no entry bar.
-pub fn leaving(p: Position, exit: Exit) -> Position
+pub fn leaving(p: Position, exit: Option<Closed>) -> Position
     ensures { result ≡ leaving p «exit» }
 {
     match exit {
-        Exit::NoExit => p,
-        Exit::Exited(c) => {
+        None => p,
+        Some(c) => {
             let account = c.portfolio;
             Position {
                 portfolio: account,
-                entered: Entered::Never,
+                entered: None,
                 extreme: p.extreme,
             }
         }
@@ -85,7 +84,7 @@ fn entering(p: Position, entry: Entry, number: u64) -> Position
         Entry::TooLarge => p,
         Entry::Entered(account, fill) => Position {
             portfolio: account,
-            entered: Entered::Bar(number),
+            entered: Some(number),
             extreme: fill,
         },
     }
@@ -129,7 +128,7 @@ fn enter(
     Filled {
         order: Order::Idle,
         position,
-        exit: Exit::NoExit,
+        exit: None,
         turned_away: entry.is_turned_away(),
     }
 }
@@ -158,7 +157,7 @@ fn wait(order: Order, p: Position) -> Filled
     Filled {
         order,
         position: p,
-        exit: Exit::NoExit,
+        exit: None,
         turned_away: false,
     }
 }
@@ -169,8 +168,8 @@ fn due_if_reached(side: Side, kind: OrderKind, order: Order, candle: Candle) -> 
 {
     let price = level::level_fill(side, kind, candle);
     match price {
-        Optional::Absent => Due::Waits(order),
-        Optional::Of(px) => Due::Enters(side, kind, px),
+        None => Due::Waits(order),
+        Some(px) => Due::Enters(side, kind, px),
     }
 }
 
@@ -228,7 +227,7 @@ pub(crate) fn fill_working_order(
 
 // The exits inside the bar. Their levels are read from the settings' words, and only in a position: carried along as values they would be divided by a
 // hundred before every bar, and a level that is not given holds whatever stood in its place, which a processor may be slow to divide.
-fn exits_of(s: Settings, settings: &[u64], candle: Candle, account: Portfolio, extreme: f64) -> Exit
+fn exits_of(s: Settings, settings: &[u64], candle: Candle, account: Portfolio, extreme: f64) -> Option<Closed>
     requires { s ≡ settings_of settings.now }
     ensures { result ≡ apply_intrabar_exits candle s.terms account extreme }
 {
@@ -236,7 +235,7 @@ fn exits_of(s: Settings, settings: &[u64], candle: Candle, account: Portfolio, e
         let terms = terms::with_levels(s.terms, records::settings::risk_in(settings));
         return intrabar::apply_intrabar_exits(candle, terms, account, extreme);
     }
-    Exit::NoExit
+    None
 }
 
 // The open position against the bar's range.
@@ -278,12 +277,12 @@ pub(crate) fn charge_funding(s: Settings, p: Position, bar: &[u64]) -> Position
 }
 
 // Adds the trade, where there is one, to a room that holds n; the result is how many it holds then.
-pub fn book(trades: &mut [u64], n: usize, exit: Exit) -> usize
+pub fn book(trades: &mut [u64], n: usize, exit: Option<Closed>) -> usize
     ensures { (result ≡ (booked trades.old n «exit»).count) × (trades.new ≡ (booked trades.old n «exit»).room) }
 {
     match exit {
-        Exit::NoExit => n,
-        Exit::Exited(c) => {
+        None => n,
+        Some(c) => {
             if n < trades.len() / words::limits::TRADE_WORDS {
                 let trade = c.trade;
                 let words = trade.words();

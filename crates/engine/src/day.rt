@@ -13,7 +13,7 @@ ghost use Rattle.engine.specs.InPlace.{RingAt, Turns};
 ghost use Rattle.engine.specs.Run.{run_over};
 ghost use Rattle.engine.specs.Step.{step_answer};
 
-use crate::answer::{Advanced, Answer};
+use crate::answer::Advanced;
 use crate::phases;
 use records::settings::Settings;
 use records::state::State;
@@ -55,11 +55,11 @@ fn next_bar<'a>(
     let n = t.counts;
     let verdict = refusals::day::judge_next(s.slots, n, bar, equity, trades);
     match verdict {
-        Verdict::Bad(refusal) => Advanced {
-            answer: Answer::Refused(refusal, t),
+        Err(refusal) => Advanced {
+            answer: Err((refusal, t)),
             start,
         },
-        Verdict::Fine => phases::advance(
+        Ok(()) => phases::advance(
             span, s, settings, t, bar, rows, start, equity, trades, trees,
         ),
     }
@@ -107,15 +107,15 @@ fn take_bars<'a>(
         start = went.start;
         let answer = went.answer;
         match answer {
-            Answer::Refused(refusal, given) => {
+            Err((refusal, given)) => {
                 rows::ring::turn(rows, row, start);
                 return Day {
                     done,
-                    verdict: Verdict::Bad(refusal),
+                    verdict: Err(refusal),
                     state: given,
                 };
             }
-            Answer::Done(next) => {
+            Ok(next) => {
                 state = next;
             }
         }
@@ -123,7 +123,7 @@ fn take_bars<'a>(
     rows::ring::turn(rows, row, start);
     Day {
         done: count,
-        verdict: Verdict::Fine,
+        verdict: Ok(()),
         state,
     }
 }
@@ -156,14 +156,14 @@ fn unlisted(
     let width = BAR_FIXED + s.slots;
     let verdict = refusals::day::judge_next(s.slots, n, &bars[..width], equity, trades);
     match verdict {
-        Verdict::Bad(refusal) => Day {
+        Err(refusal) => Day {
             done: 0,
-            verdict: Verdict::Bad(refusal),
+            verdict: Err(refusal),
             state: t,
         },
-        Verdict::Fine => Day {
+        Ok(()) => Day {
             done: 0,
-            verdict: Verdict::Bad(fifteen),
+            verdict: Err(fifteen),
             state: t,
         },
     }
@@ -190,21 +190,21 @@ pub fn run_bars<'a>(
     if no_bars(span, bars) {
         return Day {
             done: 0,
-            verdict: Verdict::Fine,
+            verdict: Ok(()),
             state: t,
         };
     }
     let s = records::settings::settings_of(settings);
-    if let Verdict::Bad(refusal) = refusals::day::judge_day(
+    if let Err(refusal) = refusals::day::judge_day(
         span, s, t, bars, rows, equity, trades,
     ) {
         return Day {
             done: 0,
-            verdict: Verdict::Bad(refusal),
+            verdict: Err(refusal),
             state: t,
         };
     }
-    if let Verdict::Bad(refusal) = refusals::lists::judge_lists(s.slots, s.depth, trees) {
+    if let Err(refusal) = refusals::lists::judge_lists(s.slots, s.depth, trees) {
         return unlisted(s, t, bars, equity, trades, refusal);
     }
     take_bars(span, s, settings, t, bars, rows, equity, trades, trees)

@@ -1,16 +1,14 @@
 // The phases of a bar.
-ghost use Rattle.std.specs.Prelude.{◌≡◌};
-ghost use Rattle.words.specs.Outcome.{refusal};
+ghost use Rattle.std.specs.Prelude.{◌≡◌, Err};
 ghost use Rattle.records.specs.Lent.{rooms};
 ghost use Rattle.refusals.specs.Lists.{lists_of};
 ghost use Rattle.records.specs.Settings.{settings_of};
 ghost use Rattle.rows.specs.History.{width};
 ghost use Rattle.rows.specs.Ring.{turned};
-ghost use Rattle.engine.specs.declared.answer.Answer.TheVariants.{Refused};
 ghost use Rattle.engine.specs.InPlace.{Ready, Turns};
 ghost use Rattle.engine.specs.Step.{advanced};
 
-use crate::answer::{Advanced, Answer};
+use crate::answer::Advanced;
 use crate::{account, decide, record};
 use portfolio::Candle;
 use records::settings::Settings;
@@ -22,15 +20,12 @@ use words::refusal::Refusal;
 
 // 16: an entry that is due cannot be sized. The state is the one that was given, and no row moves.
 fn not_sized(t: State, start: usize) -> Advanced
-    ensures { result ≡ record { answer = Refused (refusal 16 t.counts.bars_seen) t; start = start } }
+    ensures { result ≡ record { answer = Err ((Refusal.Quantity t.counts.bars_seen), t); start = start } }
 {
     let n = t.counts;
-    let sixteen = Refusal {
-        number: 16,
-        place: n.bars_seen,
-    };
+    let sixteen = Refusal::Quantity(n.bars_seen);
     Advanced {
-        answer: Answer::Refused(sixteen, t),
+        answer: Err((sixteen, t)),
         start,
     }
 }
@@ -118,7 +113,7 @@ pub(crate) fn advance<'a>(
         trades: closed,
     };
     Advanced {
-        answer: Answer::Done(after_bar(counts, next, charged, candle)),
+        answer: Ok(after_bar(counts, next, charged, candle)),
         start: after.start,
     }
 }

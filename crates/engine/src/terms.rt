@@ -1,16 +1,14 @@
 // The terms of an entry, made anew part by part. A value that is handed on whole is copied whole, the unused bytes of its enums with it, and on every
 // bar; what is made where an entry is due is copied there alone.
 ghost use Rattle.std.specs.Prelude.{◌≡◌};
-
-use execution::optional::Optional;
 use execution::terms::{Risk, Sizing, Slippage, Terms};
 
-fn level_anew(level: Optional) -> Optional
+fn level_anew(level: Option<f64>) -> Option<f64>
     ensures { result ≡ level }
 {
     match level {
-        Optional::Absent => Optional::Absent,
-        Optional::Of(x) => Optional::Of(x),
+        None => None,
+        Some(x) => Some(x),
     }
 }
 

@@ -1,6 +1,6 @@
 -- Whole lots (request 5): with a lot that is not 0 what is entered is k·lot of the size that `size` gives at the fill, or of the lesser of that and the
 -- share of the volume; and which entries are turned away, exactly.
-use Rattle.std.specs.Prelude.{◌≡◌, refl, Bool, true, false, cond, ℕ, Float}
+use Rattle.std.specs.Prelude.{◌≡◌, refl, Bool, true, false, cond, ℕ, Float, Option, None, Some}
 use Rattle.words.specs.Prelude.{sym, ap, ◌∙◌, true≢false, arith}
 use Rattle.floats.specs.{Floats.◌⊗◌, Floats.◌⊘◌, Floats.◌≺◌, Floats.◌≼◌, Floats.min, Floats.eps, Floats.zero, Floats.one, Floor.as_u64, Floor.two_to53}
 use Rattle.floats.specs.{Laws.Floor.Counts, Laws.Floor.counts, Sums.counted}
@@ -9,7 +9,7 @@ use Rattle.portfolio.specs.{declared.Candle.Candle, declared.Portfolio.Portfolio
 use Rattle.execution.specs.{Size.size, Lots.whole_lots, Lots.in_lots, Lots.size_in_lots, Lots.is_too_large, Fills.direction, Fills.volatility_for}
 use Rattle.execution.specs.{Fills.quantity, Fills.probe_qty, Fills.within_volume, Fills.entry_with, Fills.execute_entry, Fills.is_turned_away}
 use Rattle.execution.specs.{WholeLots.none_turned_away, declared.fills.Entry.Entry, declared.fills.Entry.TheVariants.NoEntry}
-use Rattle.execution.specs.{declared.fills.Entry.TheVariants.Entered, declared.optional.Optional.Optional, declared.lots.Quantity.Quantity}
+use Rattle.execution.specs.{declared.fills.Entry.TheVariants.Entered, declared.lots.Quantity.Quantity}
 use Rattle.execution.specs.{declared.lots.Quantity.TheVariants.Nothing, declared.lots.Quantity.TheVariants.TooLarge, declared.lots.Quantity.TheVariants.Of}
 use Rattle.execution.specs.{declared.level.Side.Side, declared.terms.Slippage.Slippage, declared.terms.Slippage.TheVariants.FixedBps}
 use Rattle.execution.specs.{declared.terms.Slippage.TheVariants.VolumeImpact, declared.terms.Slippage.TheVariants.Unknown, declared.terms.Terms.Terms}
@@ -27,9 +27,9 @@ abbrev pub share_of : Terms → Float → Float
 share_of terms volume = terms.max_participation ⊗ volume
 
 -- "This applies after the leverage cap and again after the partial-fill cap where that is on": q is what is ordered of the size that `size` gave.
-pub data Orders (terms : Terms) (volume : Float) (sized : Optional) : Float → Type 0 where
-  the_size : (qty q : Float) → sized ≡ Optional.Of qty → terms.partial_fills ≡ false → LotsOf terms.lot qty q → Orders terms volume sized q
-  the_lesser : (qty base q : Float) → sized ≡ Optional.Of qty → terms.partial_fills ≡ true → LotsOf terms.lot qty base
+pub data Orders (terms : Terms) (volume : Float) (sized : Option Float) : Float → Type 0 where
+  the_size : (qty q : Float) → sized ≡ Some qty → terms.partial_fills ≡ false → LotsOf terms.lot qty q → Orders terms volume sized q
+  the_lesser : (qty base q : Float) → sized ≡ Some qty → terms.partial_fills ≡ true → LotsOf terms.lot qty base
       → LotsOf terms.lot (min base (share_of terms volume)) q → Orders terms volume sized q
 
 -- "a quotient of 2^53 or more"
@@ -37,11 +37,11 @@ abbrev pub TooMany : Float → Float → Type 0
 TooMany lot qty = two_to53 ≼ (qty ⊘ lot) ≡ true
 
 -- one of an entry's quotients is so large: the probe's, where slippage is by volume; the size's at the fill; or that of the lesser of it and the share
-pub data TurnsAway (terms : Terms) (volume : Float) (probed sized : Optional) : Type 0 where
-  in_probe : (coef qty : Float) → terms.slippage ≡ VolumeImpact coef → probed ≡ Optional.Of qty → TooMany terms.lot qty
+pub data TurnsAway (terms : Terms) (volume : Float) (probed sized : Option Float) : Type 0 where
+  in_probe : (coef qty : Float) → terms.slippage ≡ VolumeImpact coef → probed ≡ Some qty → TooMany terms.lot qty
       → TurnsAway terms volume probed sized
-  in_size : (qty : Float) → sized ≡ Optional.Of qty → TooMany terms.lot qty → TurnsAway terms volume probed sized
-  in_share : (qty base : Float) → sized ≡ Optional.Of qty → in_lots terms.lot qty ≡ Of base → terms.partial_fills ≡ true
+  in_size : (qty : Float) → sized ≡ Some qty → TooMany terms.lot qty → TurnsAway terms volume probed sized
+  in_share : (qty base : Float) → sized ≡ Some qty → in_lots terms.lot qty ≡ Of base → terms.partial_fills ≡ true
       → TooMany terms.lot (min base (share_of terms volume)) → TurnsAway terms volume probed sized
 
 -- ---- a quantity in lots
@@ -86,62 +86,62 @@ module _ (lot : Float) (some : Ieee.eq lot zero ≡ false) where
 -- ---- what is ordered of a size
 
 module _ (terms : Terms) (volume : Float) (some : Ieee.eq terms.lot zero ≡ false) where
-  ordered_of : (sized : Optional) (q : Float) → within_volume terms (size_in_lots terms.lot sized) volume ≡ Of q → Orders terms volume sized q
+  ordered_of : (sized : Option Float) (q : Float) → within_volume terms (size_in_lots terms.lot sized) volume ≡ Of q → Orders terms volume sized q
   unfolding size_in_lots within_volume
-  ordered_of Optional.Absent q e = absurd (let z : ◌≡◌ {A = ℕ} 0 1 = cc in omega arith)
-  ordered_of (Optional.Of qty) q e = go (in_lots terms.lot qty) refl e
+  ordered_of None q e = absurd (let z : ◌≡◌ {A = ℕ} 0 1 = cc in omega arith)
+  ordered_of (Some qty) q e = go (in_lots terms.lot qty) refl e
     where
       switched : (base : Float) → in_lots terms.lot qty ≡ Of base → (on : Bool) → terms.partial_fills ≡ on
-          → cond on (in_lots terms.lot (min base (share_of terms volume))) (Of base) ≡ Of q → Orders terms volume (Optional.Of qty) q
+          → cond on (in_lots terms.lot (min base (share_of terms volume))) (Of base) ≡ Of q → Orders terms volume (Some qty) q
       switched base m true p e = the_lesser qty base q refl p (lots_are terms.lot some qty base m) (lots_are terms.lot some _ q e)
       switched base m false p e = let same : base ≡ q = cc in the_size qty q refl p (lots_are terms.lot some qty q (m ∙ ap Of same))
 
-      go : (w : Quantity) → in_lots terms.lot qty ≡ w → within_volume terms w volume ≡ Of q → Orders terms volume (Optional.Of qty) q
+      go : (w : Quantity) → in_lots terms.lot qty ≡ w → within_volume terms w volume ≡ Of q → Orders terms volume (Some qty) q
       go Nothing m e = absurd (let z : ◌≡◌ {A = ℕ} 0 1 = cc in omega arith)
       go TooLarge m e = absurd (let z : ◌≡◌ {A = ℕ} 0 1 = cc in omega arith)
       go (Of base) m e = switched base m terms.partial_fills refl e
 
-  module _ (probed : Optional) where
-    turned_of : (sized : Optional) → within_volume terms (size_in_lots terms.lot sized) volume ≡ TooLarge → TurnsAway terms volume probed sized
+  module _ (probed : Option Float) where
+    turned_of : (sized : Option Float) → within_volume terms (size_in_lots terms.lot sized) volume ≡ TooLarge → TurnsAway terms volume probed sized
     unfolding size_in_lots within_volume
-    turned_of Optional.Absent e = absurd (let z : ◌≡◌ {A = ℕ} 0 1 = cc in omega arith)
-    turned_of (Optional.Of qty) e = go (in_lots terms.lot qty) refl e
+    turned_of None e = absurd (let z : ◌≡◌ {A = ℕ} 0 1 = cc in omega arith)
+    turned_of (Some qty) e = go (in_lots terms.lot qty) refl e
       where
         switched : (base : Float) → in_lots terms.lot qty ≡ Of base → (on : Bool) → terms.partial_fills ≡ on
-            → cond on (in_lots terms.lot (min base (share_of terms volume))) (Of base) ≡ TooLarge → TurnsAway terms volume probed (Optional.Of qty)
+            → cond on (in_lots terms.lot (min base (share_of terms volume))) (Of base) ≡ TooLarge → TurnsAway terms volume probed (Some qty)
         switched base m true p e = in_share qty base refl m p (large_are terms.lot some _ e)
         switched base m false p e = absurd (let z : ◌≡◌ {A = ℕ} 0 1 = cc in omega arith)
 
-        go : (w : Quantity) → in_lots terms.lot qty ≡ w → within_volume terms w volume ≡ TooLarge → TurnsAway terms volume probed (Optional.Of qty)
+        go : (w : Quantity) → in_lots terms.lot qty ≡ w → within_volume terms w volume ≡ TooLarge → TurnsAway terms volume probed (Some qty)
         go Nothing m e = absurd (let z : ◌≡◌ {A = ℕ} 0 1 = cc in omega arith)
         go TooLarge m e = in_size qty refl (large_are terms.lot some qty m)
         go (Of base) m e = switched base m terms.partial_fills refl e
 
   -- a probe that is too large is one by volume
-  probed_of : (cash raw : Float) (rv sized : Optional) (slippage : Slippage) → terms.slippage ≡ slippage
+  probed_of : (cash raw : Float) (rv sized : Option Float) (slippage : Slippage) → terms.slippage ≡ slippage
       → is_too_large (probe_qty slippage terms cash raw rv) ≡ true → TurnsAway terms volume (size terms.sizing terms.risk cash raw rv) sized
   unfolding probe_qty quantity size_in_lots
   probed_of cash raw rv sized (FixedBps bps) s e = absurd (true≢false (sym e))
   probed_of cash raw rv sized Unknown s e = absurd (true≢false (sym e))
   probed_of cash raw rv sized (VolumeImpact coef) s e = of_size (size terms.sizing terms.risk cash raw rv) e
     where
-      of_lots : (qty : Float) (w : Quantity) → in_lots terms.lot qty ≡ w → is_too_large w ≡ true → TurnsAway terms volume (Optional.Of qty) sized
+      of_lots : (qty : Float) (w : Quantity) → in_lots terms.lot qty ≡ w → is_too_large w ≡ true → TurnsAway terms volume (Some qty) sized
       of_lots qty Nothing m e = absurd (true≢false (sym e))
       of_lots qty (Of q) m e = absurd (true≢false (sym e))
       of_lots qty TooLarge m e = in_probe coef qty s refl (large_are terms.lot some qty m)
 
-      of_size : (o : Optional) → is_too_large (size_in_lots terms.lot o) ≡ true → TurnsAway terms volume o sized
-      of_size Optional.Absent e = absurd (true≢false (sym e))
-      of_size (Optional.Of qty) e = of_lots qty (in_lots terms.lot qty) refl e
+      of_size : (o : Option Float) → is_too_large (size_in_lots terms.lot o) ≡ true → TurnsAway terms volume o sized
+      of_size None e = absurd (true≢false (sym e))
+      of_size (Some qty) e = of_lots qty (in_lots terms.lot qty) refl e
 
 -- ---- an entry
 
 module _ (side : Side) (raw bps : Float) (terms : Terms) (k : Candle) (p : Portfolio) (h : History) where
   -- what `size` gives for the probe, at the raw price, and at the fill
-  abbrev pub probed_size : Optional
+  abbrev pub probed_size : Option Float
   probed_size = size terms.sizing terms.risk p.cash raw (volatility_for terms.sizing h)
 
-  abbrev pub size_at : Float → Optional
+  abbrev pub size_at : Float → Option Float
   size_at fill = size terms.sizing terms.risk p.cash fill (volatility_for terms.sizing h)
 
   -- A quantity that is entered at a fill: what is ordered of the size there, with the side's sign.
@@ -181,7 +181,7 @@ module _ (side : Side) (raw bps : Float) (terms : Terms) (k : Candle) (p : Portf
   unfolding execute_entry fill_of quantity
   turned_away_only_if e = lotted (Ieee.eq terms.lot zero) refl
     where
-      rv : Optional
+      rv : Option Float
       rv = volatility_for terms.sizing h
 
       fill : Float

@@ -1,20 +1,19 @@
 -- An entry away from the market (request 1) fills exactly where the bar reaches it, and this is said of the raw price, before slippage. For any level and
 -- any bar, NaN and infinities too.
-use Rattle.std.specs.Prelude.{◌≡◌, refl, Bool, true, false, cond, ◌⊎◌, Float}
+use Rattle.std.specs.Prelude.{◌≡◌, refl, Bool, true, false, cond, ◌⊎◌, Float, None, Option, Some}
 use Rattle.words.specs.Prelude.{is_nan}
 use Rattle.floats.specs.{Floats.◌≼◌, Floats.min, Floats.max, Laws.Order.numbers, Laws.Order.min_is, Laws.Order.max_is, Laws.Order.min_first}
 use Rattle.floats.specs.{Laws.Order.min_second, Laws.Order.max_first, Laws.Order.max_second}
 use Rattle.portfolio.specs.{declared.Candle.Candle}
-use Rattle.execution.specs.{declared.optional.Optional.Optional, declared.optional.Optional.TheVariants.Absent, declared.optional.Optional.TheVariants.Of}
 use Rattle.execution.specs.{declared.level.Side.TheVariants.Long, declared.level.Side.TheVariants.Short}
 use Rattle.execution.specs.{declared.level.OrderKind.TheVariants.Limit, declared.level.OrderKind.TheVariants.Stop}
 use Rattle.execution.specs.{declared.level.OrderKind.TheVariants.StopLimit, Level.reached_below, Level.reached_above, Level.no_dearer_than, Level.no_cheaper_than}
 use Rattle.execution.specs.{Level.long_fill, Level.short_fill, Level.level_fill}
 
 -- Filled, at a price of which this is so, where a test says yes; not filled where it says no.
-pub data FillsWhen (P : Float → Type 0) : Bool → Optional → Type 0 where
-  fills : (price : Float) → P price → FillsWhen P true (Of price)
-  rests : FillsWhen P false Absent
+pub data FillsWhen (P : Float → Type 0) : Bool → Option Float → Type 0 where
+  fills : (price : Float) → P price → FillsWhen P true (Some price)
+  rests : FillsWhen P false None
 
 -- "at min(open, level)": one of the two, at most the level, and at most the open where that is a number
 pub record LowerOf (first level price : Float) : Type 0 where
@@ -28,7 +27,7 @@ pub record HigherOf (first level price : Float) : Type 0 where
   pub within : level ≼ price ≡ true
   pub open_or_better : is_nan first ≡ false → first ≼ price ≡ true
 
-by_test : (P : Float → Type 0) (price : Float) (b : Bool) → (b ≡ true → P price) → FillsWhen P b (cond b (Of price) Absent)
+by_test : (P : Float → Type 0) (price : Float) (b : Bool) → (b ≡ true → P price) → FillsWhen P b (cond b (Some price) None)
 by_test P price true h = fills price (h refl)
 by_test P price false h = rests
 
@@ -68,31 +67,31 @@ module _ (k : Candle) (level : Float) where
 
 -- "A long stop-limit that reaches its stop fills at the stop's price if that is no worse than the limit, else at the limit if low ≤ limit, else works
 -- on unchanged": what becomes of a stop's fill, where `fine` says of a price that it is no worse than the limit.
-pub data HeldTo (fine : Float → Bool) (limit : Float) (reached : Bool) : Optional → Optional → Type 0 where
-  not_stopped : HeldTo fine limit reached Absent Absent
-  at_stop : (price : Float) → fine price ≡ true → HeldTo fine limit reached (Of price) (Of price)
-  at_limit : (price : Float) → fine price ≡ false → reached ≡ true → HeldTo fine limit reached (Of price) (Of limit)
-  works_on : (price : Float) → fine price ≡ false → reached ≡ false → HeldTo fine limit reached (Of price) Absent
+pub data HeldTo (fine : Float → Bool) (limit : Float) (reached : Bool) : Option Float → Option Float → Type 0 where
+  not_stopped : HeldTo fine limit reached None None
+  at_stop : (price : Float) → fine price ≡ true → HeldTo fine limit reached (Some price) (Some price)
+  at_limit : (price : Float) → fine price ≡ false → reached ≡ true → HeldTo fine limit reached (Some price) (Some limit)
+  works_on : (price : Float) → fine price ≡ false → reached ≡ false → HeldTo fine limit reached (Some price) None
 
 held : (fine : Float → Bool) (limit price : Float) (reached : Bool)
-    → HeldTo fine limit reached (Of price) (cond (fine price) (Of price) (cond reached (Of limit) Absent))
+    → HeldTo fine limit reached (Some price) (cond (fine price) (Some price) (cond reached (Some limit) None))
 held fine limit price reached = go (fine price) reached refl refl
   where
-    go : (a b : Bool) → fine price ≡ a → reached ≡ b → HeldTo fine limit reached (Of price) (cond a (Of price) (cond b (Of limit) Absent))
+    go : (a b : Bool) → fine price ≡ a → reached ≡ b → HeldTo fine limit reached (Some price) (cond a (Some price) (cond b (Some limit) None))
     go true b e f = at_stop price e
     go false true e f = at_limit price e f
     go false false e f = works_on price e f
 
 module _ (k : Candle) (stop limit : Float) where
-  dearer : (o : Optional) → HeldTo (λ price. price ≼ limit) limit (k.low ≼ limit) o (no_dearer_than limit o k)
+  dearer : (o : Option Float) → HeldTo (λ price. price ≼ limit) limit (k.low ≼ limit) o (no_dearer_than limit o k)
   unfolding no_dearer_than
-  dearer Absent = not_stopped
-  dearer (Of price) = held (λ x. x ≼ limit) limit price (k.low ≼ limit)
+  dearer None = not_stopped
+  dearer (Some price) = held (λ x. x ≼ limit) limit price (k.low ≼ limit)
 
-  cheaper : (o : Optional) → HeldTo (λ price. limit ≼ price) limit (limit ≼ k.high) o (no_cheaper_than limit o k)
+  cheaper : (o : Option Float) → HeldTo (λ price. limit ≼ price) limit (limit ≼ k.high) o (no_cheaper_than limit o k)
   unfolding no_cheaper_than
-  cheaper Absent = not_stopped
-  cheaper (Of price) = held (λ x. limit ≼ x) limit price (limit ≼ k.high)
+  cheaper None = not_stopped
+  cheaper (Some price) = held (λ x. limit ≼ x) limit price (limit ≼ k.high)
 
   -- A long stop-limit, beside the stop's own fill.
   pub long_stop_limit_fills : HeldTo (λ price. price ≼ limit) limit (k.low ≼ limit) (level_fill Long (Stop stop) k) (level_fill Long (StopLimit stop limit) k)

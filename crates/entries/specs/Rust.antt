@@ -1,6 +1,6 @@
 -- The Rust's own entry, which drops a quantity of 0 or less where ours drops one of at most EPS (request 7): with a lot of 0 the two are the same, but for
 -- such dust.
-use Rattle.std.specs.Prelude.{◌≡◌, refl, ◌⊎◌, Bool, true, false, cond, Float}
+use Rattle.std.specs.Prelude.{◌≡◌, refl, ◌⊎◌, Bool, true, false, cond, Float, None, Option, Some}
 use Rattle.words.specs.Prelude.{is_nan}
 use Rattle.words.specs.Prelude.{sym, ◌∙◌, inl, inr, true≢false}
 use Rattle.floats.specs.{Floats.◌⊗◌, Floats.◌≺◌, Floats.◌≼◌, Floats.min, Floats.eps, Floats.zero, Laws.Order.not-below, Laws.Order.not_above}
@@ -9,8 +9,8 @@ use Rattle.rows.specs.{History.History}
 use Rattle.portfolio.specs.{declared.Candle.Candle, declared.Portfolio.Portfolio, Portfolio.entered}
 use Rattle.execution.specs.{Costs.slippage_rate, Costs.fill_price, Costs.fee_rate, Size.size, Fills.direction, Fills.volatility_for, Fills.entry_with}
 use Rattle.execution.specs.{Fills.execute_entry, RustEntry.rust_probe, RustEntry.rust_fill, RustEntry.rust_entry, WholeLots.no_lots, declared.fills.Entry.Entry}
-use Rattle.execution.specs.{declared.fills.Entry.TheVariants.NoEntry, declared.fills.Entry.TheVariants.Entered, declared.optional.Optional.Optional}
-use Rattle.execution.specs.{declared.optional.Optional.TheVariants.Absent, declared.optional.Optional.TheVariants.Of, declared.level.Side.Side}
+use Rattle.execution.specs.{declared.fills.Entry.TheVariants.NoEntry, declared.fills.Entry.TheVariants.Entered}
+use Rattle.execution.specs.{declared.level.Side.Side}
 use Rattle.execution.specs.{declared.terms.Terms.Terms}
 use Rattle.std.specs.Float.Ieee as Ieee
 
@@ -19,9 +19,9 @@ unfoldable pub base_of : Terms → Float → Float → Float
 base_of terms volume base = cond terms.partial_fills (min base (terms.max_participation ⊗ volume)) base
 
 -- `if base > 0.0 { let fee = base * fill * rate;  pf.enter(dir * base, fill, candle.time, fee); .. }`
-unfoldable pub the_rust_fills : Optional → Float → Float → Float → Terms → Candle → Portfolio → Entry
-the_rust_fills Absent dir fill bps terms k p = NoEntry
-the_rust_fills (Of base) dir fill bps terms k p =
+unfoldable pub the_rust_fills : Option Float → Float → Float → Float → Terms → Candle → Portfolio → Entry
+the_rust_fills None dir fill bps terms k p = NoEntry
+the_rust_fills (Some base) dir fill bps terms k p =
     cond (zero ≺ base_of terms k.volume base)
     (Entered (entered p (dir ⊗ base_of terms k.volume base) fill k.time (base_of terms k.volume base ⊗ fill ⊗ fee_rate bps)) fill)
     NoEntry
@@ -38,8 +38,8 @@ the_rusts_entry side raw bps terms k p h =
     (direction side) (the_rusts_fill side raw terms k p h) bps terms k p
 
 -- dust: a quantity above 0 and at most EPS
-pub data Dust (terms : Terms) (volume : Float) : Optional → Type 0 where
-  dust : (base : Float) → zero ≺ base_of terms volume base ≡ true → eps ≺ base_of terms volume base ≡ false → Dust terms volume (Of base)
+pub data Dust (terms : Terms) (volume : Float) : Option Float → Type 0 where
+  dust : (base : Float) → zero ≺ base_of terms volume base ≡ true → eps ≺ base_of terms volume base ≡ false → Dust terms volume (Some base)
 
 above_at_most : (x y : Float) → x ≺ y ≡ true → x ≼ y ≡ true
 unfolding Ieee.le
@@ -65,11 +65,11 @@ some_above x e = go (zero ≺ x) refl
         absurd (true≢false (sym e ∙ not_above x eps (in_turn x zero eps under zero_under_eps)))
 
 module _ (terms : Terms) (none : Ieee.eq terms.lot zero ≡ true) (side : Side) (raw bps : Float) (k : Candle) (p : Portfolio) (h : History) where
-  fills_alike : (sized : Optional) (fill : Float)
+  fills_alike : (sized : Option Float) (fill : Float)
       → (rust_fill sized (direction side) fill bps terms k p ≡ the_rust_fills sized (direction side) fill bps terms k p) ⊎ Dust terms k.volume sized
   unfolding rust_fill the_rust_fills entry_with base_of
-  fills_alike Absent fill = inl refl
-  fills_alike (Of base) fill = go (zero ≺ base_of terms k.volume base) (eps ≺ base_of terms k.volume base) refl refl
+  fills_alike None fill = inl refl
+  fills_alike (Some base) fill = go (zero ≺ base_of terms k.volume base) (eps ≺ base_of terms k.volume base) refl refl
     where
       b : Float
       b = base_of terms k.volume base
@@ -78,7 +78,7 @@ module _ (terms : Terms) (none : Ieee.eq terms.lot zero ≡ true) (side : Side) 
       opened = entered p (direction side ⊗ b) fill k.time (b ⊗ fill ⊗ fee_rate bps)
 
       go : (some more : Bool) → zero ≺ b ≡ some → eps ≺ b ≡ more
-          → (cond more (Entered opened fill) NoEntry ≡ cond some (Entered opened fill) NoEntry) ⊎ Dust terms k.volume (Of base)
+          → (cond more (Entered opened fill) NoEntry ≡ cond some (Entered opened fill) NoEntry) ⊎ Dust terms k.volume (Some base)
       go true true e f = inl refl
       go true false e f = inr (dust base e f)
       go false true e f = inl (absurd (true≢false (sym (some_above b f) ∙ e)))

@@ -1,10 +1,11 @@
 -- A pass over the returns between two rows: what is left of it at a row. Assumes nothing.
+use Rattle.std.specs.Prelude.{None, Option, Some}
 use Rattle.words.specs.Prelude.{◌≡◌, sym, ◌∙◌, List, ℕ, suc, ◌+◌, ◌-◌, ◌≤◌, ◌<◌, add-zero, add-one, arith, length, Float}
 use Rattle.floats.specs.{Floats.◌⊕◌, Sums.sum_from}
 use Rattle.rows.specs.{History.History}
 use Rattle.execution.specs.{Volatility.close_at, Volatility.closes, Volatility.simple_return, Volatility.kept, Volatility.returns, Tally.term_of}
-use Rattle.execution.specs.{Tally.tally_from, declared.optional.Optional.Optional, declared.optional.Optional.TheVariants.Absent}
-use Rattle.execution.specs.{declared.optional.Optional.TheVariants.Of, declared.volatility.Tally.Tally, declared.volatility.Term.Term}
+use Rattle.execution.specs.{Tally.tally_from}
+use Rattle.execution.specs.{declared.volatility.Tally.Tally, declared.volatility.Term.Term}
 
 -- the returns from row i on, up to row `last`
 abbrev pub rest : History → ℕ → ℕ → List Float
@@ -27,21 +28,21 @@ ended k h i last n s l so_far =
     rw (e, add-zero n) at so_far
 
 -- One turn: the closes of row i and of the next, and the return between them, which is added or passed over.
-module _ (k : Term) (h : History) (i last n : ℕ) (s : Float) {before now : Float} {change : Optional} {whole : Tally}
+module _ (k : Term) (h : History) (i last n : ℕ) (s : Float) {before now : Float} {change : Option Float} {whole : Tally}
     (left : i < last) (at : before ≡ close_at h i) (next : now ≡ close_at h (i + 1)) (found : change ≡ simple_return before now)
     (so_far : tally_from k n s (rest h i last) ≡ whole) where
-  pub added : {r t : Float} → change ≡ Of r → t ≡ term_of k r → tally_from k (n + 1) (s ⊕ t) (rest h (i + 1) last) ≡ whole
+  pub added : {r t : Float} → change ≡ Some r → t ≡ term_of k r → tally_from k (n + 1) (s ⊕ t) (rest h (i + 1) last) ≡ whole
   unfolding kept tally_from sum_from
   added {r} e term =
-      let pair : simple_return (close_at h i) (close_at h (i + 1)) ≡ Of r = cc in
+      let pair : simple_return (close_at h i) (close_at h (i + 1)) ≡ Some r = cc in
       let one : n + suc (length (rest h (i + 1) last)) ≡ n + 1 + length (rest h (i + 1) last) = omega arith in
       let turn : tally_from k n s (rest h i last) ≡ tally_from k (n + 1) (s ⊕ term_of k r) (rest h (i + 1) last) =
       rw (ahead h i last left, pair, one) in
       rw term (sym turn ∙ so_far)
 
-  pub passed : change ≡ Absent → tally_from k n s (rest h (i + 1) last) ≡ whole
+  pub passed : change ≡ None → tally_from k n s (rest h (i + 1) last) ≡ whole
   unfolding kept
   passed e =
-      let pair : simple_return (close_at h i) (close_at h (i + 1)) ≡ Absent = cc in
+      let pair : simple_return (close_at h i) (close_at h (i + 1)) ≡ None = cc in
       let turn : tally_from k n s (rest h i last) ≡ tally_from k n s (rest h (i + 1) last) = rw (ahead h i last left, pair) in
       sym turn ∙ so_far

@@ -1,10 +1,11 @@
 -- The two passes of `realized_vol`, put together. Assumes nothing.
+use Rattle.std.specs.Prelude.{None, Option}
 use Rattle.words.specs.Prelude.{◌≡◌, sym, ap, ◌∙◌, List, map, ℕ, suc, ◌-◌, ◌≤◌, zero-add, arith, le-ltb, eq-eqb, ne_eqb, length, Float}
 use Rattle.floats.specs.{Floats.◌⊘◌, Sums.sum_from, Sums.sum, Sums.counted, Sqrt.sqrt}
 use Rattle.rows.specs.{History.History}
 use Rattle.execution.specs.{Volatility.closes, Volatility.returns, Volatility.mean_of, Volatility.square_from, Volatility.deviation, Volatility.if_positive}
-use Rattle.execution.specs.{Volatility.spread, Volatility.realized_vol, Tally.term_of, Tally.tally_from, declared.optional.Optional.Optional}
-use Rattle.execution.specs.{declared.optional.Optional.TheVariants.Absent, declared.volatility.Tally.Tally, declared.volatility.Term.Term}
+use Rattle.execution.specs.{Volatility.spread, Volatility.realized_vol, Tally.term_of, Tally.tally_from}
+use Rattle.execution.specs.{declared.volatility.Tally.Tally, declared.volatility.Term.Term}
 use Rattle.execution.specs.{declared.volatility.Term.TheVariants.Itself, declared.volatility.Term.TheVariants.Squared}
 use Rattle.execution.proofs.{Passes.rest}
 use mathlib.Core.List.{map-id}
@@ -35,12 +36,12 @@ module _ (h : History) (held back : ℕ) (are : held ≡ h.rows) (two : 2 ≤ ba
     count = rw (first, over_rets)
 
     -- no return was kept
-    pub no_returns : t.count ≡ 0 → Absent ≡ realized_vol h back
+    pub no_returns : t.count ≡ 0 → None ≡ realized_vol h back
     unfolding spread
     no_returns z = rw is_spread (simp (eq-eqb _ _ (sym count ∙ z)))
 
     -- some were, and a second pass had their mean
-    pub some_returns : (n sd : Float) (u : Tally) (r : Optional) → (t.count ≡ 0 → ⊥) → n ≡ counted t.count
+    pub some_returns : (n sd : Float) (u : Tally) (r : Option Float) → (t.count ≡ 0 → ⊥) → n ≡ counted t.count
         → u ≡ pass (Squared (t.total ⊘ n)) → sd ≡ sqrt (u.total ⊘ n) → r ≡ if_positive sd → r ≡ realized_vol h back
     unfolding spread deviation mean_of term_of
     some_returns n sd u r some e f g k =

@@ -1,10 +1,10 @@
 -- What a fill costs, and funding. Definitions only, each under what the Rust writes.
-use Rattle.std.specs.Prelude.{Bool, cond, ℕ, Float}
+use Rattle.std.specs.Prelude.{Bool, cond, ℕ, Float, None, Option, Some}
 use Rattle.floats.specs.{Floats.◌⊕◌, Floats.◌⊗◌, Floats.◌⊘◌, Floats.◌≺◌, Floats.abs, Floats.zero, Floats.one, Floats.ten_thousand}
 use Rattle.portfolio.specs.{declared.Portfolio.Portfolio, declared.Closed.Closed, Portfolio.in_position, Portfolio.funded, Portfolio.exited}
 use Rattle.execution.specs.{declared.terms.Slippage.Slippage, declared.terms.Slippage.TheVariants.FixedBps}
 use Rattle.execution.specs.{declared.terms.Slippage.TheVariants.VolumeImpact, declared.terms.Slippage.TheVariants.Unknown}
-use Rattle.execution.specs.{declared.costs.Funding.Funding, declared.costs.Funding.TheVariants.NotSupplied, declared.costs.Funding.TheVariants.Supplied}
+use Rattle.execution.specs.{declared.costs.Funding.Funding}
 
 -- `slippage_rate`: a fraction of the price. A kind that the papers do not name slips nothing (added).
 unfoldable pub slippage_rate : Slippage → Float → Float → Float
@@ -26,10 +26,10 @@ closed p price time bps reason = exited p price time (abs p.qty ⊗ price ⊗ fe
 
 -- `let payment = self.pf.qty * d.mark_price * d.funding_rate;  self.pf.apply_funding(payment);`
 -- "nothing if not supplied (added)"
-unfoldable pub with_funding : Funding → Portfolio → Portfolio
-with_funding NotSupplied p = p
-with_funding (Supplied mark rate) p = funded p (p.qty ⊗ mark ⊗ rate)
+unfoldable pub with_funding : Option Funding → Portfolio → Portfolio
+with_funding None p = p
+with_funding (Some funding) p = funded p (p.qty ⊗ funding.mark ⊗ funding.rate)
 
 -- `charge_funding`. "Funding: in a position, if switched on, qty·mark·rate leaves cash."
-unfoldable pub charge_funding : Bool → Funding → Portfolio → Portfolio
+unfoldable pub charge_funding : Bool → Option Funding → Portfolio → Portfolio
 charge_funding on f p = cond on (cond (in_position p) (with_funding f p) p) p

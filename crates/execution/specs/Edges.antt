@@ -1,15 +1,15 @@
 -- Both sides of the edges of this crate, proved of its definitions.
-use Rattle.std.specs.Prelude.{◌≡◌, refl, true, false, ℕ, pos, negsuc, Float}
+use Rattle.std.specs.Prelude.{◌≡◌, refl, true, false, ℕ, pos, negsuc, Float, None, Some}
 use Rattle.words.specs.Prelude.{binary64, fin}
 use Rattle.floats.specs.{Floats.◌⊗◌, Floats.◌⊘◌, Floor.as_u64, Sums.counted}
 use Rattle.portfolio.specs.{declared.Candle.Candle, Trade.stop_loss}
 use Rattle.execution.specs.{Size.capped, Lots.whole_lots, Lots.in_lots, Intrabar.fall_to, Intrabar.fill_under, Intrabar.fill_over, Intrabar.fired}
-use Rattle.execution.specs.{Intrabar.or_else, Intrabar.first_of, Intrabar.long_exit, Intrabar.intrabar_exit, declared.optional.Optional.TheVariants.Absent}
-use Rattle.execution.specs.{declared.optional.Optional.TheVariants.Of, declared.terms.Risk.Risk, declared.intrabar.Trigger.TheVariants.Untouched}
-use Rattle.execution.specs.{declared.intrabar.Trigger.TheVariants.At}
+use Rattle.execution.specs.{Intrabar.or_else, Intrabar.first_of, Intrabar.long_exit, Intrabar.intrabar_exit}
+use Rattle.execution.specs.{declared.terms.Risk.Risk}
 use Rattle.std.specs.Float.Ieee as Ieee
 use Rattle.floats.specs.Floats as Floats
 use Rattle.execution.specs.declared.lots.Quantity.TheVariants as Quantity
+use Rattle.execution.specs.{Supplied.touches}
 
 abbrev pub num : ℕ → Float
 num n = Ieee.of_int binary64 (pos n)
@@ -21,11 +21,11 @@ seventy_five_and_a_half = fin false 151 (negsuc 0)
 -- a stop of 25% and nothing else
 abbrev pub stop_only : Risk
 stop_only = record {
-  stop_loss_pct = Of (num 25);
-  trailing_stop_pct = Absent;
-  take_profit_pct = Absent;
-  max_leverage = Absent;
-  max_position_pct = Absent;
+  stop_loss_pct = Some (num 25);
+  trailing_stop_pct = None;
+  take_profit_pct = None;
+  max_leverage = None;
+  max_position_pct = None;
   liquidation = false;
 }
 
@@ -35,9 +35,9 @@ module _ (time : ℕ) (high close volume extreme : Float) where
   abbrev pub bar : Float → Float → Candle
   bar first low = record { time = time; «open» = first; high = high; low = low; close = close; volume = volume }
 
-  pub stop_edges : (intrabar_exit (bar (num 70) (num 68)) stop_only (num 100) extreme true ≡ At (num 70) stop_loss)
-      × (intrabar_exit (bar (num 80) (num 75)) stop_only (num 100) extreme true ≡ At (num 75) stop_loss)
-      × (intrabar_exit (bar (num 80) seventy_five_and_a_half) stop_only (num 100) extreme true ≡ Untouched)
+  pub stop_edges : (intrabar_exit (bar (num 70) (num 68)) stop_only (num 100) extreme true ≡ touches (num 70) stop_loss)
+      × (intrabar_exit (bar (num 80) (num 75)) stop_only (num 100) extreme true ≡ touches (num 75) stop_loss)
+      × (intrabar_exit (bar (num 80) seventy_five_and_a_half) stop_only (num 100) extreme true ≡ None)
   unfolding intrabar_exit long_exit first_of or_else fired fill_under fall_to fill_over Floats.min
       Ieee.of_int Ieee.of_bits Ieee.is_nan Ieee.lt Ieee.le Ieee.sub Ieee.mul Ieee.div
   stop_edges = (refl, refl, refl)

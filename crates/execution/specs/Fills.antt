@@ -1,13 +1,12 @@
 -- `execute_entry` and `execute_exit`. Definitions only, each under what the Rust writes.
-use Rattle.std.specs.Prelude.{Bool, true, false, cond, ℕ, Float}
+use Rattle.std.specs.Prelude.{Bool, true, false, cond, ℕ, Float, None, Option, Some}
 use Rattle.floats.specs.{Floats.◌⊗◌, Floats.◌≺◌, Floats.min, Floats.eps, Floats.one}
 use Rattle.rows.specs.{History.History}
 use Rattle.portfolio.specs.{declared.Candle.Candle, declared.Portfolio.Portfolio, Portfolio.in_position, Portfolio.is_long, Portfolio.entered}
 use Rattle.execution.specs.{Size.size, Lots.in_lots, Lots.size_in_lots, Lots.is_too_large, Lots.or_zero, Volatility.realized_vol, Costs.slippage_rate}
 use Rattle.execution.specs.{Costs.fill_price, Costs.fee_rate, Costs.closed, declared.fills.Entry.Entry, declared.fills.Entry.TheVariants.NoEntry}
-use Rattle.execution.specs.{declared.fills.Entry.TheVariants.TooLarge, declared.fills.Entry.TheVariants.Entered, declared.fills.Exit.Exit}
-use Rattle.execution.specs.{declared.fills.Exit.TheVariants.NoExit, declared.fills.Exit.TheVariants.Exited, declared.optional.Optional.Optional}
-use Rattle.execution.specs.{declared.optional.Optional.TheVariants.Absent, declared.lots.Quantity.Quantity, declared.lots.Quantity.TheVariants.Nothing}
+use Rattle.execution.specs.{declared.fills.Entry.TheVariants.TooLarge, declared.fills.Entry.TheVariants.Entered}
+use Rattle.execution.specs.{declared.lots.Quantity.Quantity, declared.lots.Quantity.TheVariants.Nothing}
 use Rattle.execution.specs.{declared.lots.Quantity.TheVariants.Of, declared.level.Side.Side, declared.level.Side.TheVariants.Long}
 use Rattle.execution.specs.{declared.level.Side.TheVariants.Short, declared.terms.Sizing.Sizing, declared.terms.Sizing.TheVariants.FixedFraction}
 use Rattle.execution.specs.{declared.terms.Sizing.TheVariants.FixedQty, declared.terms.Sizing.TheVariants.FixedCash}
@@ -15,6 +14,7 @@ use Rattle.execution.specs.{declared.terms.Sizing.TheVariants.VolTarget, declare
 use Rattle.execution.specs.{declared.terms.Slippage.Slippage, declared.terms.Slippage.TheVariants.FixedBps}
 use Rattle.execution.specs.{declared.terms.Slippage.TheVariants.VolumeImpact, declared.terms.Terms.Terms}
 use Rattle.std.specs.Float.Ieee as Ieee
+use Rattle.portfolio.specs.{declared.Closed.Closed}
 
 -- `let dir = match side { Side::Long => 1.0, Side::Short => -1.0 };`
 unfoldable pub direction : Side → Float
@@ -22,21 +22,21 @@ direction Long = one
 direction Short = Ieee.neg one
 
 -- `let rv = match sizing { Sizing::VolTarget { lookback, .. } => realized_vol(history, lookback), _ => None };`
-unfoldable pub volatility_for : Sizing → History → Optional
+unfoldable pub volatility_for : Sizing → History → Option Float
 volatility_for (VolTarget target lookback) h = realized_vol h lookback
-volatility_for (FixedFraction fraction) h = Absent
-volatility_for (FixedQty qty) h = Absent
-volatility_for (FixedCash cash) h = Absent
-volatility_for (RiskPerTrade pct) h = Absent
-volatility_for Sizing.Unknown h = Absent
+volatility_for (FixedFraction fraction) h = None
+volatility_for (FixedQty qty) h = None
+volatility_for (FixedCash cash) h = None
+volatility_for (RiskPerTrade pct) h = None
+volatility_for Sizing.Unknown h = None
 
 -- `size(spec, equity, price, rv)?`, in lots (request 5)
-unfoldable pub quantity : Terms → Float → Float → Optional → Quantity
+unfoldable pub quantity : Terms → Float → Float → Option Float → Quantity
 quantity terms cash price rv = size_in_lots terms.lot (size terms.sizing terms.risk cash price rv)
 
 -- `let probe_qty = match slippage { Slippage::VolumeImpact { .. } => size(..)?.unwrap_or(0.0), _ => 0.0 };`. "volume slippage probes the
 -- quantity in lots"
-unfoldable pub probe_qty : Slippage → Terms → Float → Float → Optional → Quantity
+unfoldable pub probe_qty : Slippage → Terms → Float → Float → Option Float → Quantity
 probe_qty (VolumeImpact coef) terms cash raw rv = quantity terms cash raw rv
 probe_qty (FixedBps bps) terms cash raw rv = Nothing
 probe_qty Slippage.Unknown terms cash raw rv = Nothing
@@ -81,8 +81,8 @@ unfoldable pub exit_direction : Portfolio → Float
 exit_direction p = cond (is_long p) (Ieee.neg one) one
 
 -- `execute_exit`: `if !pf.in_position() { return; }`
-unfoldable pub execute_exit : ℕ → Float → Terms → Candle → Portfolio → Exit
+unfoldable pub execute_exit : ℕ → Float → Terms → Candle → Portfolio → Option Closed
 execute_exit reason raw terms k p =
     cond (in_position p)
-    (Exited (closed p (fill_price raw (exit_direction p) (slippage_rate terms.slippage p.qty k.volume)) k.time terms.taker_bps reason))
-    NoExit
+    (Some (closed p (fill_price raw (exit_direction p) (slippage_rate terms.slippage p.qty k.volume)) k.time terms.taker_bps reason))
+    None

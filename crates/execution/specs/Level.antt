@@ -1,9 +1,8 @@
 -- Entries away from the market (request 1). Definitions only, under the request's sentences; beside them what the Rust's `level_fill` writes.
-use Rattle.std.specs.Prelude.{cond, Float}
+use Rattle.std.specs.Prelude.{cond, Float, None, Option, Some}
 use Rattle.floats.specs.{Floats.◌⊕◌, Floats.◌⊗◌, Floats.◌⊘◌, Floats.◌≼◌, Floats.min, Floats.max, Floats.one, Floats.hundred}
 use Rattle.portfolio.specs.{declared.Candle.Candle}
-use Rattle.execution.specs.{declared.optional.Optional.Optional, declared.optional.Optional.TheVariants.Absent}
-use Rattle.execution.specs.{declared.optional.Optional.TheVariants.Of, declared.level.Side.Side, declared.level.Side.TheVariants.Long}
+use Rattle.execution.specs.{declared.level.Side.Side, declared.level.Side.TheVariants.Long}
 use Rattle.execution.specs.{declared.level.Side.TheVariants.Short, declared.level.Entries.Entries, declared.level.OrderType.OrderType}
 use Rattle.execution.specs.{declared.level.OrderType.TheVariants.Market as MarketType, declared.level.OrderType.TheVariants.Limit as LimitType}
 use Rattle.execution.specs.{declared.level.OrderType.TheVariants.Stop as StopType, declared.level.OrderType.TheVariants.StopLimit as StopLimitType}
@@ -34,40 +33,40 @@ fee_bps (Stop level) maker taker = taker
 fee_bps (StopLimit stop limit) maker taker = taker
 
 -- ".. fills if low ≤ level, at min(open, level)": `(c.low <= trigger).then(|| c.open.min(trigger))`
-unfoldable pub reached_below : Float → Candle → Optional
-reached_below level k = cond (k.low ≼ level) (Of (min k.«open» level)) Absent
+unfoldable pub reached_below : Float → Candle → Option Float
+reached_below level k = cond (k.low ≼ level) (Some (min k.«open» level)) None
 
 -- ".. if high ≥ level, at max(open, level)": `(c.high >= trigger).then(|| c.open.max(trigger))`
-unfoldable pub reached_above : Float → Candle → Optional
-reached_above level k = cond (level ≼ k.high) (Of (max k.«open» level)) Absent
+unfoldable pub reached_above : Float → Candle → Option Float
+reached_above level k = cond (level ≼ k.high) (Some (max k.«open» level)) None
 
 -- "A long stop-limit that reaches its stop fills at the stop's price if that is no worse than the limit, else at the limit if low ≤ limit,
 -- else works on unchanged". The Rust: `(c.high >= trigger && c.low <= limit).then(|| limit.min(c.open.max(trigger)))`, which wants
 -- low ≤ limit of a stop's price within the limit too, and of two equal zeros takes the limit's.
-unfoldable pub no_dearer_than : Float → Optional → Candle → Optional
-no_dearer_than limit Absent k = Absent
-no_dearer_than limit (Of price) k = cond (price ≼ limit) (Of price) (cond (k.low ≼ limit) (Of limit) Absent)
+unfoldable pub no_dearer_than : Float → Option Float → Candle → Option Float
+no_dearer_than limit None k = None
+no_dearer_than limit (Some price) k = cond (price ≼ limit) (Some price) (cond (k.low ≼ limit) (Some limit) None)
 
 -- "a short mirrors"
-unfoldable pub no_cheaper_than : Float → Optional → Candle → Optional
-no_cheaper_than limit Absent k = Absent
-no_cheaper_than limit (Of price) k = cond (limit ≼ price) (Of price) (cond (limit ≼ k.high) (Of limit) Absent)
+unfoldable pub no_cheaper_than : Float → Option Float → Candle → Option Float
+no_cheaper_than limit None k = None
+no_cheaper_than limit (Some price) k = cond (limit ≼ price) (Some price) (cond (limit ≼ k.high) (Some limit) None)
 
 -- "A long limit fills if low ≤ level ..; a long stop if high ≥ level .."; a market order at the open
-unfoldable pub long_fill : OrderKind → Candle → Optional
-long_fill Market k = Of k.«open»
+unfoldable pub long_fill : OrderKind → Candle → Option Float
+long_fill Market k = Some k.«open»
 long_fill (Limit level) k = reached_below level k
 long_fill (Stop level) k = reached_above level k
 long_fill (StopLimit stop limit) k = no_dearer_than limit (reached_above stop k) k
 
 -- "a short mirrors"
-unfoldable pub short_fill : OrderKind → Candle → Optional
-short_fill Market k = Of k.«open»
+unfoldable pub short_fill : OrderKind → Candle → Option Float
+short_fill Market k = Some k.«open»
 short_fill (Limit level) k = reached_above level k
 short_fill (Stop level) k = reached_below level k
 short_fill (StopLimit stop limit) k = no_cheaper_than limit (reached_below stop k) k
 
 -- the raw price of the fill; absent: "works on unchanged"
-unfoldable pub level_fill : Side → OrderKind → Candle → Optional
+unfoldable pub level_fill : Side → OrderKind → Candle → Option Float
 level_fill Long kind k = long_fill kind k
 level_fill Short kind k = short_fill kind k

@@ -1,7 +1,7 @@
 -- Whole lots: "Brokers reject 3.7 contracts. Sizing gains a lot." Definitions only.
-use Rattle.std.specs.Prelude.{Bool, true, false, cond, Float}
+use Rattle.std.specs.Prelude.{Bool, true, false, cond, Float, Option, None, Some}
 use Rattle.floats.specs.{Floats.◌⊗◌, Floats.◌⊘◌, Floats.◌≼◌, Floats.zero, Floats.one, Floor.as_u64, Floor.two_to53, Sums.counted}
-use Rattle.execution.specs.{declared.optional.Optional.Optional, declared.lots.Quantity.Quantity, declared.lots.Quantity.TheVariants.Nothing}
+use Rattle.execution.specs.{declared.lots.Quantity.Quantity, declared.lots.Quantity.TheVariants.Nothing}
 use Rattle.execution.specs.{declared.lots.Quantity.TheVariants.TooLarge, declared.lots.Quantity.TheVariants.Of}
 use Rattle.std.specs.Float.Ieee as Ieee
 
@@ -17,9 +17,9 @@ unfoldable pub in_lots : Float → Float → Quantity
 in_lots lot qty = cond (Ieee.eq lot zero) (Of qty) (whole_lots lot (qty ⊘ lot))
 
 -- "This applies after the leverage cap": to what `size` gives
-unfoldable pub size_in_lots : Float → Optional → Quantity
-size_in_lots lot Optional.Absent = Nothing
-size_in_lots lot (Optional.Of qty) = in_lots lot qty
+unfoldable pub size_in_lots : Float → Option Float → Quantity
+size_in_lots lot None = Nothing
+size_in_lots lot (Some qty) = in_lots lot qty
 
 -- ---- of a quantity
 

@@ -1,9 +1,7 @@
 -- A number that may not be there.
-use Rattle.std.specs.Prelude.{Float}
-use Rattle.execution.specs.{declared.optional.Optional.Optional, declared.optional.Optional.TheVariants.Absent}
-use Rattle.execution.specs.{declared.optional.Optional.TheVariants.Of}
+use Rattle.std.specs.Prelude.{Float, None, Option, Some}
 
 -- `unwrap_or`
-unfoldable pub unwrap_or : Optional → Float → Float
-unwrap_or Absent other = other
-unwrap_or (Of x) other = x
+unfoldable pub unwrap_or : Option Float → Float → Float
+unwrap_or None other = other
+unwrap_or (Some x) other = x

@@ -1,10 +1,8 @@
 -- `realized_vol`: the standard deviation of the close-to-close returns of the last rows. Definitions only, each under what
 -- the Rust writes.
-use Rattle.std.specs.Prelude.{cond, List, [], ◌∷◌, map, ℕ, zero, suc, ◌-◌, ltb, eqb, length, Float}
+use Rattle.std.specs.Prelude.{cond, List, [], ◌∷◌, map, ℕ, zero, suc, ◌-◌, ltb, eqb, length, Float, None, Option, Some}
 use Rattle.floats.specs.{Floats.◌⊖◌, Floats.◌⊘◌, Floats.◌≺◌, Floats.abs, Floats.eps, Sums.sum, Sums.counted, Sums.square, Sqrt.sqrt}
 use Rattle.rows.specs.{History.History, History.field}
-use Rattle.execution.specs.{declared.optional.Optional.Optional, declared.optional.Optional.TheVariants.Absent}
-use Rattle.execution.specs.{declared.optional.Optional.TheVariants.Of}
 use Rattle.floats.specs.Floats as Floats
 
 -- `row.candle.close`
@@ -17,12 +15,12 @@ closes h i zero = []
 closes h i (suc n) = close_at h i ∷ closes h (suc i) n
 
 -- `.filter(|w| w[0].abs() > f64::EPSILON).map(|w| (w[1] - w[0]) / w[0])` of one pair
-unfoldable pub simple_return : Float → Float → Optional
-simple_return before now = cond (eps ≺ abs before) (Of ((now ⊖ before) ⊘ before)) Absent
+unfoldable pub simple_return : Float → Float → Option Float
+simple_return before now = cond (eps ≺ abs before) (Some ((now ⊖ before) ⊘ before)) None
 
-unfoldable pub kept : Optional → List Float → List Float
-kept Absent later = later
-kept (Of r) later = r ∷ later
+unfoldable pub kept : Option Float → List Float → List Float
+kept None later = later
+kept (Some r) later = r ∷ later
 
 -- `closes.windows(2)`, filtered and mapped: `rets`
 unfoldable pub returns : List Float → List Float
@@ -43,17 +41,17 @@ unfoldable pub deviation : List Float → Float
 deviation rets = sqrt (sum (map (square_from (mean_of rets)) rets) ⊘ counted (length rets))
 
 -- `(sd > 0.0).then_some(sd)`
-unfoldable pub if_positive : Float → Optional
-if_positive sd = cond (Floats.zero ≺ sd) (Of sd) Absent
+unfoldable pub if_positive : Float → Option Float
+if_positive sd = cond (Floats.zero ≺ sd) (Some sd) None
 
 -- `if rets.is_empty() { return None; }`
-unfoldable pub spread : List Float → Optional
-spread rets = cond (eqb (length rets) 0) Absent (if_positive (deviation rets))
+unfoldable pub spread : List Float → Option Float
+spread rets = cond (eqb (length rets) 0) None (if_positive (deviation rets))
 
 -- `realized_vol`: `if lookback < 2 || history.len() < lookback { return None; }`, then the last `lookback` rows.
 -- "Realized volatility reads the rows before this bar": those of h.
-unfoldable pub realized_vol : History → ℕ → Optional
+unfoldable pub realized_vol : History → ℕ → Option Float
 realized_vol h lookback =
-    cond (ltb lookback 2) Absent
-    (cond (ltb h.rows lookback) Absent
+    cond (ltb lookback 2) None
+    (cond (ltb h.rows lookback) None
     (spread (returns (closes h (h.rows - lookback) lookback))))

@@ -1,5 +1,5 @@
 -- What whole lots come to: with a lot of 0 an entry is the Rust's, and with any other every quantity that is entered is k·lot.
-use Rattle.std.specs.Prelude.{◌≡◌, refl, Bool, true, false, cond, ℕ, Float}
+use Rattle.std.specs.Prelude.{◌≡◌, refl, Bool, true, false, cond, ℕ, Float, Option, None, Some}
 use Rattle.words.specs.Prelude.{ap, subst, ◌∙◌, arith}
 use Rattle.floats.specs.{Floats.◌⊗◌, Floats.◌⊘◌, Floats.◌≺◌, Floats.◌≼◌, Floats.min, Floats.eps, Floats.zero, Floats.one, Floor.as_u64, Floor.two_to53}
 use Rattle.floats.specs.{Laws.Floor.Counts, Laws.Floor.counts, Sums.counted}
@@ -9,7 +9,7 @@ use Rattle.execution.specs.{Costs.slippage_rate, Costs.fill_price, Costs.fee_rat
 use Rattle.execution.specs.{Lots.size_in_lots, Lots.is_too_large, Lots.or_zero, Fills.direction, Fills.volatility_for, Fills.quantity, Fills.probe_qty}
 use Rattle.execution.specs.{Fills.within_volume, Fills.entry_with, Fills.execute_entry, Fills.is_turned_away, RustEntry.rust_probe, RustEntry.rust_fill}
 use Rattle.execution.specs.{RustEntry.rust_entry, declared.fills.Entry.Entry, declared.fills.Entry.TheVariants.NoEntry}
-use Rattle.execution.specs.{declared.fills.Entry.TheVariants.Entered, declared.optional.Optional.Optional, declared.lots.Quantity.Quantity}
+use Rattle.execution.specs.{declared.fills.Entry.TheVariants.Entered, declared.lots.Quantity.Quantity}
 use Rattle.execution.specs.{declared.lots.Quantity.TheVariants.Nothing, declared.lots.Quantity.TheVariants.TooLarge}
 use Rattle.execution.specs.{declared.lots.Quantity.TheVariants.Of, declared.level.Side.Side, declared.terms.Slippage.Slippage}
 use Rattle.execution.specs.{declared.terms.Slippage.TheVariants.FixedBps, declared.terms.Slippage.TheVariants.VolumeImpact}
@@ -28,33 +28,33 @@ quantity_booked dir base fill bps k p =
     by_test true q = refl
     by_test false q = refl
 
-rust_fills : (sized : Optional) (dir fill bps : Float) (terms : Terms) (k : Candle) (p : Portfolio)
+rust_fills : (sized : Option Float) (dir fill bps : Float) (terms : Terms) (k : Candle) (p : Portfolio)
     → is_turned_away (rust_fill sized dir fill bps terms k p) ≡ false
 unfolding rust_fill
-rust_fills Optional.Absent dir fill bps terms k p = refl
-rust_fills (Optional.Of base) dir fill bps terms k p = quantity_booked dir _ fill bps k p
+rust_fills None dir fill bps terms k p = refl
+rust_fills (Some base) dir fill bps terms k p = quantity_booked dir _ fill bps k p
 
 module _ (terms : Terms) (none : Ieee.eq terms.lot zero ≡ true) where
   unchanged : (qty : Float) → in_lots terms.lot qty ≡ Of qty
   unfolding in_lots
   unchanged qty = rw none
 
-  probe_as_before : (slippage : Slippage) (cash raw : Float) (rv : Optional)
+  probe_as_before : (slippage : Slippage) (cash raw : Float) (rv : Option Float)
       → (is_too_large (probe_qty slippage terms cash raw rv) ≡ false) × (or_zero (probe_qty slippage terms cash raw rv) ≡ rust_probe slippage terms cash raw rv)
   unfolding probe_qty quantity rust_probe size_in_lots unwrap_or
   probe_as_before (FixedBps bps) cash raw rv = (refl, refl)
   probe_as_before Unknown cash raw rv = (refl, refl)
   probe_as_before (VolumeImpact coef) cash raw rv = sized (size terms.sizing terms.risk cash raw rv)
     where
-      sized : (o : Optional) → (is_too_large (size_in_lots terms.lot o) ≡ false) × (or_zero (size_in_lots terms.lot o) ≡ unwrap_or o zero)
-      sized Optional.Absent = (refl, refl)
-      sized (Optional.Of qty) = rw (unchanged qty) (refl, refl)
+      sized : (o : Option Float) → (is_too_large (size_in_lots terms.lot o) ≡ false) × (or_zero (size_in_lots terms.lot o) ≡ unwrap_or o zero)
+      sized None = (refl, refl)
+      sized (Some qty) = rw (unchanged qty) (refl, refl)
 
-  fill_as_before : (sized : Optional) (dir fill bps : Float) (k : Candle) (p : Portfolio)
+  fill_as_before : (sized : Option Float) (dir fill bps : Float) (k : Candle) (p : Portfolio)
       → entry_with dir (within_volume terms (size_in_lots terms.lot sized) k.volume) fill bps k p ≡ rust_fill sized dir fill bps terms k p
   unfolding size_in_lots within_volume entry_with rust_fill
-  fill_as_before Optional.Absent dir fill bps k p = refl
-  fill_as_before (Optional.Of qty) dir fill bps k p = rw (unchanged qty) (by_switch terms.partial_fills)
+  fill_as_before None dir fill bps k p = refl
+  fill_as_before (Some qty) dir fill bps k p = rw (unchanged qty) (by_switch terms.partial_fills)
     where
       by_switch : (on : Bool) → entry_with dir (cond on (in_lots terms.lot (min qty (terms.max_participation ⊗ k.volume))) (Of qty)) fill bps k p
           ≡ entry_with dir (Of (cond on (min qty (terms.max_participation ⊗ k.volume)) qty)) fill bps k p
@@ -102,10 +102,10 @@ module _ (lot : Float) (some : Ieee.eq lot zero ≡ false) where
       go false true l h e = record { qty = qty; k = as_u64 (qty ⊘ lot); counts = counts (qty ⊘ lot) h l; made = cc }
 
   -- a size in lots
-  sized_in_lots : (o : Optional) (q : Float) → size_in_lots lot o ≡ Of q → InWholeLots lot q
+  sized_in_lots : (o : Option Float) (q : Float) → size_in_lots lot o ≡ Of q → InWholeLots lot q
   unfolding size_in_lots
-  sized_in_lots Optional.Absent q e = absurd (let z : ◌≡◌ {A = ℕ} 0 1 = cc in omega arith)
-  sized_in_lots (Optional.Of qty) q e = in_lots_lem qty q e
+  sized_in_lots None q e = absurd (let z : ◌≡◌ {A = ℕ} 0 1 = cc in omega arith)
+  sized_in_lots (Some qty) q e = in_lots_lem qty q e
 
 -- what the partial-fill cap leaves is in lots where the size is
 within_in_lots : (terms : Terms) (volume : Float) → Ieee.eq terms.lot zero ≡ false → (w : Quantity) (q : Float)

@@ -58,7 +58,7 @@ fn with_funding(funding: Funding, pf: Portfolio) -> Portfolio
     ensures { result ≡ with_funding funding pf }
 {
     match funding {
-        Funding::NotSupplied => pf,
-        Funding::Supplied(mark, rate) => pf.apply_funding(pf.qty * mark * rate),
+        None => pf,
+        Some(Funding { mark, rate }) => pf.apply_funding(pf.qty * mark * rate),
     }
 }

@@ -7,7 +7,6 @@ ghost use Rattle.execution.specs.Fills.{entry_with, execute_entry, exit_directio
 
 use crate::level::Side;
 use crate::lots::Quantity;
-use crate::optional::Optional;
 use crate::terms::{Sizing, Slippage, Terms};
 use crate::{costs, lots, size, volatility};
 use portfolio::{Candle, Closed, Portfolio};
@@ -33,13 +32,6 @@ impl Entry {
     }
 }
 
-// An exit's answer: the portfolio without the position, and the trade.
-#[derive(Clone, Copy)]
-pub enum Exit {
-    NoExit,
-    Exited(Closed),
-}
-
 #[tactic(auto, unfolding(crate::specs::Fills::direction))]
 fn direction(side: Side) -> f64
     ensures { result ≡ direction side }
@@ -52,24 +44,24 @@ fn direction(side: Side) -> f64
 
 // The volatility that the sizing asks for, over the rows before this bar, which begin at row `start`.
 #[tactic(auto, unfolding(crate::specs::Fills::volatility_for))]
-fn volatility_for(sizing: Sizing, rows: &[u64], slots: usize, start: usize) -> Optional
+fn volatility_for(sizing: Sizing, rows: &[u64], slots: usize, start: usize) -> Option<f64>
     ensures { result ≡ volatility_for sizing (ring_of slots start rows.now) }
 {
     match sizing {
         Sizing::VolTarget(_, lookback) => volatility::realized_vol_ring(
             rows, slots, start, lookback,
         ),
-        Sizing::FixedFraction(_) => Optional::Absent,
-        Sizing::FixedQty(_) => Optional::Absent,
-        Sizing::FixedCash(_) => Optional::Absent,
-        Sizing::RiskPerTrade(_) => Optional::Absent,
-        Sizing::Unknown => Optional::Absent,
+        Sizing::FixedFraction(_) => None,
+        Sizing::FixedQty(_) => None,
+        Sizing::FixedCash(_) => None,
+        Sizing::RiskPerTrade(_) => None,
+        Sizing::Unknown => None,
     }
 }
 
 // What an entry at `price` orders, in lots.
 #[tactic(auto, unfolding(crate::specs::Fills::quantity))]
-fn quantity(terms: Terms, cash: f64, price: f64, rv: Optional) -> Quantity
+fn quantity(terms: Terms, cash: f64, price: f64, rv: Option<f64>) -> Quantity
     ensures { result ≡ quantity terms cash price rv }
 {
     let sizing = terms.sizing;
@@ -79,7 +71,7 @@ fn quantity(terms: Terms, cash: f64, price: f64, rv: Optional) -> Quantity
 
 // Slippage by volume needs the order's size: what it would be at the price before slippage.
 #[tactic(auto, unfolding(crate::specs::Fills::probe_qty))]
-fn probe_qty(slippage: Slippage, terms: Terms, cash: f64, raw_price: f64, rv: Optional) -> Quantity
+fn probe_qty(slippage: Slippage, terms: Terms, cash: f64, raw_price: f64, rv: Option<f64>) -> Quantity
     ensures { result ≡ probe_qty slippage terms cash raw_price rv }
 {
     match slippage {
@@ -198,7 +190,7 @@ pub fn execute_exit(
     terms: Terms,
     candle: Candle,
     pf: Portfolio,
-) -> Exit
+) -> Option<Closed>
     ensures { result ≡ execute_exit reason raw_price terms candle pf }
 {
     if pf.in_position() {
@@ -206,7 +198,7 @@ pub fn execute_exit(
         let dir = exit_direction(pf);
         let slip = costs::slippage_rate(slippage, pf.qty, candle.volume);
         let fill = raw_price * (1.0 + dir * slip);
-        return Exit::Exited(costs::close(pf, fill, candle.time, terms.taker_bps, reason));
+        return Some(costs::close(pf, fill, candle.time, terms.taker_bps, reason));
     }
-    Exit::NoExit
+    None
 }

@@ -5,9 +5,8 @@ ghost use Rattle.execution.specs.Intrabar.{favourable, extreme_with, fall_to, ri
 ghost use Rattle.execution.specs.Intrabar.{fired, or_else, first_of, long_exit, short_exit, intrabar_exit};
 ghost use Rattle.execution.specs.Intrabar.{breached, liquidated, or_liquidated, closed_by, apply_intrabar_exits};
 
+use portfolio::Closed;
 use crate::costs;
-use crate::fills::Exit;
-use crate::optional::Optional;
 use crate::terms::{Risk, Terms};
 use portfolio::{Candle, LIQUIDATION, Portfolio, STOP_LOSS, TAKE_PROFIT, TRAILING_STOP};
 
@@ -44,73 +43,73 @@ pub fn extreme_with(candle: Candle, pf: Portfolio, extreme: f64) -> f64
 // these are no twins of those.
 // A level that is touched from above: filled there, or at the open where the bar opened under it.
 #[tactic(auto, unfolding(crate::specs::Intrabar::fall_to))]
-fn fall_to(level: f64, open: f64, low: f64) -> Optional
+fn fall_to(level: f64, open: f64, low: f64) -> Option<f64>
     ensures { result ≡ fall_to level «open» low }
 {
     if low <= level {
-        return Optional::Of(floats::min(level, open));
+        return Some(floats::min(level, open));
     }
-    Optional::Absent
+    None
 }
 
 // A level that is touched from below: filled there, or at the open where the bar opened over it.
 #[tactic(auto, unfolding(crate::specs::Intrabar::rise_to))]
-fn rise_to(level: f64, open: f64, high: f64) -> Optional
+fn rise_to(level: f64, open: f64, high: f64) -> Option<f64>
     ensures { result ≡ rise_to level «open» high }
 {
     if high >= level {
-        return Optional::Of(floats::max(level, open));
+        return Some(floats::max(level, open));
     }
-    Optional::Absent
+    None
 }
 
 // The fill at a level `pct` percent under `base`.
 #[tactic(auto, unfolding(crate::specs::Intrabar::fill_under))]
-fn fill_under(candle: Candle, base: f64, pct: Optional) -> Optional
+fn fill_under(candle: Candle, base: f64, pct: Option<f64>) -> Option<f64>
     ensures { result ≡ fill_under candle base pct }
 {
     match pct {
-        Optional::Absent => Optional::Absent,
-        Optional::Of(p) => fall_to(base * (1.0 - p / 100.0), candle.open, candle.low),
+        None => None,
+        Some(p) => fall_to(base * (1.0 - p / 100.0), candle.open, candle.low),
     }
 }
 
 // The fill at a level `pct` percent over `base`.
 #[tactic(auto, unfolding(crate::specs::Intrabar::fill_over))]
-fn fill_over(candle: Candle, base: f64, pct: Optional) -> Optional
+fn fill_over(candle: Candle, base: f64, pct: Option<f64>) -> Option<f64>
     ensures { result ≡ fill_over candle base pct }
 {
     match pct {
-        Optional::Absent => Optional::Absent,
-        Optional::Of(p) => rise_to(base * (1.0 + p / 100.0), candle.open, candle.high),
+        None => None,
+        Some(p) => rise_to(base * (1.0 + p / 100.0), candle.open, candle.high),
     }
 }
 
 // A level's fill and its reason.
 #[tactic(auto, unfolding(crate::specs::Intrabar::fired))]
-fn fired(price: Optional, reason: u64) -> Trigger
+fn fired(price: Option<f64>, reason: u64) -> Option<Trigger>
     ensures { result ≡ fired price reason }
 {
     match price {
-        Optional::Absent => Trigger::Untouched,
-        Optional::Of(p) => Trigger::At(p, reason),
+        None => None,
+        Some(p) => Some(Trigger { price: p, reason }),
     }
 }
 
 // The first of two that fired.
 #[tactic(auto, unfolding(crate::specs::Intrabar::or_else))]
-fn or_else(first: Trigger, second: Trigger) -> Trigger
+fn or_else(first: Option<Trigger>, second: Option<Trigger>) -> Option<Trigger>
     ensures { result ≡ or_else first second }
 {
     match first {
-        Trigger::At(price, reason) => Trigger::At(price, reason),
-        Trigger::Untouched => second,
+        Some(Trigger { price, reason }) => Some(Trigger { price, reason }),
+        None => second,
     }
 }
 
 // The stop is taken to be hit before the trailing stop, and that before the target.
 #[tactic(auto, unfolding(crate::specs::Intrabar::first_of))]
-fn first_of(stop: Optional, trail: Optional, take: Optional) -> Trigger
+fn first_of(stop: Option<f64>, trail: Option<f64>, take: Option<f64>) -> Option<Trigger>
     ensures { result ≡ first_of stop trail take }
 {
     let stopped = fired(stop, STOP_LOSS);
@@ -122,7 +121,7 @@ fn first_of(stop: Optional, trail: Optional, take: Optional) -> Trigger
 // A long's stops stand under, its target over. It and a short's differ in each function that they call: one function over both would
 // be passed those as closures, and be no shorter.
 #[tactic(auto, unfolding(crate::specs::Intrabar::long_exit))]
-fn long_exit(candle: Candle, risk: Risk, entry: f64, extreme: f64) -> Trigger
+fn long_exit(candle: Candle, risk: Risk, entry: f64, extreme: f64) -> Option<Trigger>
     ensures { result ≡ long_exit candle risk entry extreme }
 {
     let stop_loss_pct = risk.stop_loss_pct;
@@ -136,7 +135,7 @@ fn long_exit(candle: Candle, risk: Risk, entry: f64, extreme: f64) -> Trigger
 
 // A short's stops stand over, its target under.
 #[tactic(auto, unfolding(crate::specs::Intrabar::short_exit))]
-fn short_exit(candle: Candle, risk: Risk, entry: f64, extreme: f64) -> Trigger
+fn short_exit(candle: Candle, risk: Risk, entry: f64, extreme: f64) -> Option<Trigger>
     ensures { result ≡ short_exit candle risk entry extreme }
 {
     let stop_loss_pct = risk.stop_loss_pct;
@@ -150,11 +149,11 @@ fn short_exit(candle: Candle, risk: Risk, entry: f64, extreme: f64) -> Trigger
 
 // The level that the bar touches, if any.
 #[tactic(auto, unfolding(crate::specs::Intrabar::intrabar_exit))]
-pub fn intrabar_exit(candle: Candle, risk: Risk, entry: f64, extreme: f64, is_long: bool) -> Trigger
+pub fn intrabar_exit(candle: Candle, risk: Risk, entry: f64, extreme: f64, is_long: bool) -> Option<Trigger>
     ensures { result ≡ intrabar_exit candle risk entry extreme is_long }
 {
     if entry <= 0.0 {
-        return Trigger::Untouched;
+        return None;
     }
     if is_long {
         return long_exit(candle, risk, entry, extreme);
@@ -174,49 +173,49 @@ fn breached(candle: Candle, price: f64, is_long: bool) -> bool
 
 // The bankruptcy price, where the bar reaches it: there the account's equity is 0.
 #[tactic(auto, unfolding(crate::specs::Intrabar::bankruptcy_price, crate::specs::Intrabar::liquidated))]
-pub fn liquidation(candle: Candle, pf: Portfolio) -> Trigger
+pub fn liquidation(candle: Candle, pf: Portfolio) -> Option<Trigger>
     ensures { result ≡ liquidated candle pf }
 {
     let p_liq = -pf.cash / pf.qty;
     if p_liq > 0.0 {
         if breached(candle, p_liq, pf.is_long()) {
-            return Trigger::At(p_liq, LIQUIDATION);
+            return Some(Trigger { price: p_liq, reason: LIQUIDATION });
         }
-        return Trigger::Untouched;
+        return None;
     }
-    Trigger::Untouched
+    None
 }
 
 #[tactic(auto, unfolding(crate::specs::Intrabar::or_liquidated))]
-fn or_liquidated(fired: Trigger, candle: Candle, risk: Risk, pf: Portfolio) -> Trigger
+fn or_liquidated(fired: Option<Trigger>, candle: Candle, risk: Risk, pf: Portfolio) -> Option<Trigger>
     ensures { result ≡ or_liquidated fired candle risk pf }
 {
     match fired {
-        Trigger::At(price, reason) => Trigger::At(price, reason),
-        Trigger::Untouched => {
+        Some(Trigger { price, reason }) => Some(Trigger { price, reason }),
+        None => {
             if risk.liquidation {
                 return liquidation(candle, pf);
             }
-            Trigger::Untouched
+            None
         }
     }
 }
 
 #[tactic(auto, unfolding(crate::specs::Intrabar::closed_by))]
-fn closed_by(trigger: Trigger, candle: Candle, terms: Terms, pf: Portfolio) -> Exit
+fn closed_by(trigger: Option<Trigger>, candle: Candle, terms: Terms, pf: Portfolio) -> Option<Closed>
     ensures { result ≡ closed_by trigger candle terms pf }
 {
     match trigger {
-        Trigger::Untouched => Exit::NoExit,
-        Trigger::At(price, reason) => {
-            Exit::Exited(costs::close(pf, price, candle.time, terms.taker_bps, reason))
+        None => None,
+        Some(Trigger { price, reason }) => {
+            Some(costs::close(pf, price, candle.time, terms.taker_bps, reason))
         }
     }
 }
 
 // The open position against one bar's range. `extreme` has taken this bar already.
 #[tactic(auto, unfolding(crate::specs::Intrabar::apply_intrabar_exits, crate::specs::Intrabar::touched))]
-pub fn apply_intrabar_exits(candle: Candle, terms: Terms, pf: Portfolio, extreme: f64) -> Exit
+pub fn apply_intrabar_exits(candle: Candle, terms: Terms, pf: Portfolio, extreme: f64) -> Option<Closed>
     ensures { result ≡ apply_intrabar_exits candle terms pf extreme }
 {
     if pf.in_position() {
@@ -225,5 +224,5 @@ pub fn apply_intrabar_exits(candle: Candle, terms: Terms, pf: Portfolio, extreme
         let trigger = or_liquidated(fired, candle, risk, pf);
         return closed_by(trigger, candle, terms, pf);
     }
-    Exit::NoExit
+    None
 }

@@ -2,8 +2,6 @@
 ghost use Rattle.std.specs.Prelude.{◌≡◌};
 ghost use Rattle.execution.specs.Level.{level_from, entry_trigger, fee_bps, reached_below, reached_above, no_dearer_than, no_cheaper_than};
 ghost use Rattle.execution.specs.Level.{long_fill, short_fill, level_fill};
-
-use crate::optional::Optional;
 use portfolio::Candle;
 
 #[derive(Clone, Copy)]
@@ -80,71 +78,71 @@ pub fn fee_bps(kind: OrderKind, maker_bps: f64, taker_bps: f64) -> f64
 
 // A level that is reached from above: filled there, or at the open where the bar opened under it.
 #[tactic(auto, unfolding(crate::specs::Level::reached_below))]
-fn reached_below(level: f64, candle: Candle) -> Optional
+fn reached_below(level: f64, candle: Candle) -> Option<f64>
     ensures { result ≡ reached_below level candle }
 {
     if candle.low <= level {
-        return Optional::Of(floats::min(candle.open, level));
+        return Some(floats::min(candle.open, level));
     }
-    Optional::Absent
+    None
 }
 
 // A level that is reached from below: filled there, or at the open where the bar opened over it.
 #[tactic(auto, unfolding(crate::specs::Level::reached_above))]
-fn reached_above(level: f64, candle: Candle) -> Optional
+fn reached_above(level: f64, candle: Candle) -> Option<f64>
     ensures { result ≡ reached_above level candle }
 {
     if candle.high >= level {
-        return Optional::Of(floats::max(candle.open, level));
+        return Some(floats::max(candle.open, level));
     }
-    Optional::Absent
+    None
 }
 
 // A buyer's stop that was reached at `price`, held to its limit.
 #[tactic(auto, unfolding(crate::specs::Level::no_dearer_than))]
-fn no_dearer_than(limit: f64, price: Optional, candle: Candle) -> Optional
+fn no_dearer_than(limit: f64, price: Option<f64>, candle: Candle) -> Option<f64>
     ensures { result ≡ no_dearer_than limit price candle }
 {
     match price {
-        Optional::Absent => Optional::Absent,
-        Optional::Of(px) => {
+        None => None,
+        Some(px) => {
             if px <= limit {
-                return Optional::Of(px);
+                return Some(px);
             }
             if candle.low <= limit {
-                return Optional::Of(limit);
+                return Some(limit);
             }
-            Optional::Absent
+            None
         }
     }
 }
 
 // A seller's stop that was reached at `price`, held to its limit.
 #[tactic(auto, unfolding(crate::specs::Level::no_cheaper_than))]
-fn no_cheaper_than(limit: f64, price: Optional, candle: Candle) -> Optional
+fn no_cheaper_than(limit: f64, price: Option<f64>, candle: Candle) -> Option<f64>
     ensures { result ≡ no_cheaper_than limit price candle }
 {
     match price {
-        Optional::Absent => Optional::Absent,
-        Optional::Of(px) => {
+        None => None,
+        Some(px) => {
             if px >= limit {
-                return Optional::Of(px);
+                return Some(px);
             }
             if candle.high >= limit {
-                return Optional::Of(limit);
+                return Some(limit);
             }
-            Optional::Absent
+            None
         }
     }
 }
 
 // It and a short's differ in each function that they call: one function over both would be passed those as closures, and be no shorter.
 #[tactic(auto, unfolding(crate::specs::Level::long_fill))]
-fn long_fill(kind: OrderKind, candle: Candle) -> Optional
+fn long_fill(kind: OrderKind, candle: Candle) -> Option<f64>
     ensures { result ≡ long_fill kind candle }
 {
     match kind {
-        OrderKind::Market => Optional::Of(candle.open),
+        OrderKind::Market => Some(candle.open),
         OrderKind::Limit(level) => reached_below(level, candle),
         OrderKind::Stop(level) => reached_above(level, candle),
         OrderKind::StopLimit(stop, limit) => no_dearer_than(
@@ -156,11 +154,11 @@ fn long_fill(kind: OrderKind, candle: Candle) -> Optional
 }
 
 #[tactic(auto, unfolding(crate::specs::Level::short_fill))]
-fn short_fill(kind: OrderKind, candle: Candle) -> Optional
+fn short_fill(kind: OrderKind, candle: Candle) -> Option<f64>
     ensures { result ≡ short_fill kind candle }
 {
     match kind {
-        OrderKind::Market => Optional::Of(candle.open),
+        OrderKind::Market => Some(candle.open),
         OrderKind::Limit(level) => reached_above(level, candle),
         OrderKind::Stop(level) => reached_below(level, candle),
         OrderKind::StopLimit(stop, limit) => no_cheaper_than(
@@ -173,7 +171,7 @@ fn short_fill(kind: OrderKind, candle: Candle) -> Optional
 
 // The raw price at which an entry fills on a bar; absent where the bar does not reach it, and the order works on.
 #[tactic(auto, unfolding(crate::specs::Level::level_fill))]
-pub fn level_fill(side: Side, kind: OrderKind, candle: Candle) -> Optional
+pub fn level_fill(side: Side, kind: OrderKind, candle: Candle) -> Option<f64>
     ensures { result ≡ level_fill side kind candle }
 {
     match side {

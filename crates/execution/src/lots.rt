@@ -2,8 +2,6 @@
 ghost use Rattle.std.specs.Prelude.{◌≡◌};
 ghost use Rattle.execution.specs.Lots.{in_lots, size_in_lots, is_too_large, or_zero};
 
-use crate::optional::Optional;
-
 // How much to order: nothing, more lots than can be counted, or so much.
 #[derive(Clone, Copy)]
 pub enum Quantity {
@@ -55,11 +53,11 @@ pub fn in_lots(lot: f64, qty: f64) -> Quantity
 
 // What a size is in lots.
 #[tactic(auto, unfolding(crate::specs::Lots::size_in_lots))]
-pub fn size_in_lots(lot: f64, sized: Optional) -> Quantity
+pub fn size_in_lots(lot: f64, sized: Option<f64>) -> Quantity
     ensures { result ≡ size_in_lots lot sized }
 {
     match sized {
-        Optional::Absent => Quantity::Nothing,
-        Optional::Of(qty) => in_lots(lot, qty),
+        None => Quantity::Nothing,
+        Some(qty) => in_lots(lot, qty),
     }
 }

@@ -2,13 +2,6 @@
 ghost use Rattle.std.specs.Prelude.{◌≡◌};
 ghost use Rattle.execution.specs.Optional.{unwrap_or};
 
-// A number that may not be there.
-#[derive(Clone, Copy)]
-pub enum Optional {
-    Absent,
-    Of(f64),
-}
-
 impl Optional {
     // The number, or `other` where there is none.
     #[tactic(auto, unfolding(crate::specs::Optional::unwrap_or))]
@@ -16,8 +9,8 @@ impl Optional {
         ensures { result ≡ unwrap_or self other }
     {
         match self {
-            Optional::Absent => other,
-            Optional::Of(x) => x,
+            None => other,
+            Some(x) => x,
         }
     }
 }

@@ -1,31 +1,29 @@
 // `size`: the quantity of an entry, without its sign.
 ghost use Rattle.std.specs.Prelude.{◌≡◌};
 ghost use Rattle.execution.specs.Size.{size, wanted, by_risk, by_volatility, capped, max_notional, at_most};
-
-use crate::optional::Optional;
 use crate::terms::{Risk, Sizing};
 
 // The quantity of an entry at `price` with `equity` to spend; absent where there is nothing to order.
 #[tactic(auto, unfolding(crate::specs::Size::capped_qty, crate::specs::Size::size))]
-pub fn size(sizing: Sizing, risk: Risk, equity: f64, price: f64, realized_vol: Optional) -> Optional
+pub fn size(sizing: Sizing, risk: Risk, equity: f64, price: f64, realized_vol: Option<f64>) -> Option<f64>
     ensures { result ≡ size sizing risk equity price realized_vol }
 {
     if price <= 0.0 {
-        return Optional::Absent;
+        return None;
     }
     if equity <= 0.0 {
-        return Optional::Absent;
+        return None;
     }
     let stop = risk.stop_loss_pct;
     let asked = wanted(sizing, stop, equity, price, realized_vol);
     match asked {
-        Optional::Absent => Optional::Absent,
-        Optional::Of(qty) => {
+        None => None,
+        Some(qty) => {
             if qty <= 0.0 {
-                return Optional::Absent;
+                return None;
             }
             let most = max_notional(risk, equity);
-            Optional::Of(capped(qty, price, most))
+            Some(capped(qty, price, most))
         }
     }
 }
@@ -34,47 +32,47 @@ pub fn size(sizing: Sizing, risk: Risk, equity: f64, price: f64, realized_vol: O
 #[tactic(auto, unfolding(crate::specs::Size::wanted))]
 fn wanted(
     sizing: Sizing,
-    stop: Optional,
+    stop: Option<f64>,
     equity: f64,
     price: f64,
-    realized_vol: Optional,
-) -> Optional
+    realized_vol: Option<f64>,
+) -> Option<f64>
     ensures { result ≡ wanted sizing stop equity price realized_vol }
 {
     match sizing {
-        Sizing::FixedFraction(fraction) => Optional::Of(equity * fraction / price),
-        Sizing::FixedCash(cash) => Optional::Of(cash / price),
-        Sizing::FixedQty(qty) => Optional::Of(qty),
+        Sizing::FixedFraction(fraction) => Some(equity * fraction / price),
+        Sizing::FixedCash(cash) => Some(cash / price),
+        Sizing::FixedQty(qty) => Some(qty),
         Sizing::RiskPerTrade(risk_pct) => by_risk(risk_pct, stop, equity, price),
         Sizing::VolTarget(target_vol, _) => by_volatility(target_vol, realized_vol, equity, price),
-        Sizing::Unknown => Optional::Absent,
+        Sizing::Unknown => None,
     }
 }
 
 // A stop-loss hit loses risk_pct of the equity. No stop loss, no order: the engine refuses such settings beforehand.
 #[tactic(auto, unfolding(crate::specs::Size::by_risk))]
-fn by_risk(risk_pct: f64, stop: Optional, equity: f64, price: f64) -> Optional
+fn by_risk(risk_pct: f64, stop: Option<f64>, equity: f64, price: f64) -> Option<f64>
     ensures { result ≡ by_risk risk_pct stop equity price }
 {
     match stop {
-        Optional::Absent => Optional::Absent,
-        Optional::Of(stop) => {
+        None => None,
+        Some(stop) => {
             if stop <= 0.0 {
-                return Optional::Absent;
+                return None;
             }
-            Optional::Of((equity * risk_pct / 100.0) / (price * stop / 100.0))
+            Some((equity * risk_pct / 100.0) / (price * stop / 100.0))
         }
     }
 }
 
 // The position's volatility a bar is target_vol. No volatility yet, no order.
 #[tactic(auto, unfolding(crate::specs::Size::by_volatility))]
-fn by_volatility(target_vol: f64, realized_vol: Optional, equity: f64, price: f64) -> Optional
+fn by_volatility(target_vol: f64, realized_vol: Option<f64>, equity: f64, price: f64) -> Option<f64>
     ensures { result ≡ by_volatility target_vol realized_vol equity price }
 {
     match realized_vol {
-        Optional::Absent => Optional::Absent,
-        Optional::Of(rv) => Optional::Of(equity * target_vol / rv / price),
+        None => None,
+        Some(rv) => Some(equity * target_vol / rv / price),
     }
 }
 
@@ -101,11 +99,11 @@ fn max_notional(risk: Risk, equity: f64) -> f64
 }
 
 #[tactic(auto, unfolding(crate::specs::Size::at_most))]
-fn at_most(most: f64, max_position_pct: Optional, equity: f64) -> f64
+fn at_most(most: f64, max_position_pct: Option<f64>, equity: f64) -> f64
     ensures { result ≡ at_most most max_position_pct equity }
 {
     match max_position_pct {
-        Optional::Absent => most,
-        Optional::Of(max_pct) => floats::min(most, equity * max_pct / 100.0),
+        None => most,
+        Some(max_pct) => floats::min(most, equity * max_pct / 100.0),
     }
 }

@@ -1,5 +1,4 @@
 // What fills and exits go by.
-use crate::optional::Optional;
 
 // How large an entry is. VolTarget has the target and the lookback. Unknown stands for a kind that the papers do not
 // name: it never gives an order.
@@ -24,11 +23,11 @@ pub enum Slippage {
 // Levels in percent, caps, and whether a bankrupt position is liquidated.
 #[derive(Clone, Copy)]
 pub struct Risk {
-    pub stop_loss_pct: Optional,
-    pub trailing_stop_pct: Optional,
-    pub take_profit_pct: Optional,
-    pub max_leverage: Optional,
-    pub max_position_pct: Optional,
+    pub stop_loss_pct: Option<f64>,
+    pub trailing_stop_pct: Option<f64>,
+    pub take_profit_pct: Option<f64>,
+    pub max_leverage: Option<f64>,
+    pub max_position_pct: Option<f64>,
     pub liquidation: bool,
 }
 

@@ -6,8 +6,6 @@ ghost use Rattle.rows.specs.History.{history_of};
 ghost use Rattle.rows.specs.Ring.{ring_of};
 ghost use Rattle.execution.specs.Volatility.{close_at, closes, simple_return, returns, if_positive, realized_vol};
 ghost use Rattle.execution.specs.Tally.{term_of, tally_from};
-
-use crate::optional::Optional;
 use rows::ring;
 
 // What a pass adds up: the returns, or how far each is from a mean, squared.
@@ -35,13 +33,13 @@ fn close_at(rows: &[u64], slots: usize, held: usize, start: usize, i: usize) -> 
 
 // The return from one close to the next; absent where the first is next to nothing.
 #[tactic(auto, unfolding(crate::specs::Volatility::simple_return))]
-fn simple_return(before: f64, now: f64) -> Optional
+fn simple_return(before: f64, now: f64) -> Option<f64>
     ensures { result ≡ simple_return before «now» }
 {
     if floats::abs(before) > floats::EPS {
-        return Optional::Of((now - before) / before);
+        return Some((now - before) / before);
     }
-    Optional::Absent
+    None
 }
 
 #[tactic(auto, unfolding(crate::specs::Volatility::square_from, crate::specs::Tally::term_of))]
@@ -73,7 +71,7 @@ fn tally_of(
     for i in first..last {
         let now = close_at(rows, slots, held, start, i + 1);
         let change = simple_return(before, now);
-        if let Optional::Of(r) = change {
+        if let Some(r) = change {
             count += 1;
             total += term_of(term, r);
         }
@@ -83,40 +81,40 @@ fn tally_of(
 }
 
 #[tactic(auto, unfolding(crate::specs::Volatility::if_positive))]
-fn if_positive(sd: f64) -> Optional
+fn if_positive(sd: f64) -> Option<f64>
     ensures { result ≡ if_positive sd }
 {
     if sd > 0.0 {
-        return Optional::Of(sd);
+        return Some(sd);
     }
-    Optional::Absent
+    None
 }
 
 // The volatility of the last `lookback` rows; absent where there are too few, or where the series is flat.
-pub fn realized_vol(rows: &[u64], slots: usize, lookback: u64) -> Optional
+pub fn realized_vol(rows: &[u64], slots: usize, lookback: u64) -> Option<f64>
     ensures { result ≡ realized_vol (history_of slots rows.now) lookback }
 {
     realized_vol_ring(rows, slots, 0, lookback)
 }
 
 // The same of rows that begin at row `start`, go on to the last and then from the first.
-pub fn realized_vol_ring(rows: &[u64], slots: usize, start: usize, lookback: u64) -> Optional
+pub fn realized_vol_ring(rows: &[u64], slots: usize, start: usize, lookback: u64) -> Option<f64>
     ensures { result ≡ realized_vol (ring_of slots start rows.now) lookback }
 {
     if lookback < 2 {
-        return Optional::Absent;
+        return None;
     }
     let held = rows::row_count(rows, slots);
     let back = lookback as usize;
     if held < back {
-        return Optional::Absent;
+        return None;
     }
     let oldest = ring::first_of(held, start);
     let first = held - back;
     let last = held - 1;
     let sum = tally_of(rows, slots, held, oldest, first, last, Term::Itself);
     if sum.count == 0 {
-        return Optional::Absent;
+        return None;
     }
     let n = floats::sums::counted(sum.count);
     let mean = sum.total / n;

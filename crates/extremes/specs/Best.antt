@@ -1,13 +1,13 @@
 -- What Highest and Lowest answer, said of the values that they look over and not of how these are gone through: the answer is one of them, none is
 -- better, and of equals the oldest is kept. Over numbers: infinite ones too, a NaN not.
-use Rattle.std.specs.Prelude.{ℕ, zero, suc, ◌+◌, ◌-◌, ◌≤◌, ◌<◌, ◌≡◌, refl, Bool, true, false, cond, leb, Float}
+use Rattle.std.specs.Prelude.{ℕ, zero, suc, ◌+◌, ◌-◌, ◌≤◌, ◌<◌, ◌≡◌, refl, Bool, true, false, cond, leb, Float, Option, Some}
 use Rattle.words.specs.Prelude.{is_nan}
 use Rattle.words.specs.Prelude.{sym, ap, ◌∙◌, true≢false, arith}
 use Rattle.words.specs.Prelude.{leb-true, leb-false}
 use Rattle.floats.specs.{Floats.◌≺◌, Floats.◌≼◌, Laws.Order.not-below, Laws.Order.not_above, Laws.Order.numbers, Laws.Order.itself, Laws.Order.in_turn}
 use Rattle.rows.specs.{History.History}
 use Rattle.table.specs.{declared.series.Series.Series, Trees.extreme}
-use Rattle.rules.specs.{declared.values.Value.Value, declared.values.Value.TheVariants.Number, Values.better, Values.took, Values.pick, Meaning.series_at}
+use Rattle.rules.specs.{Values.better, Values.took, Values.pick, Meaning.series_at}
 use Rattle.rules.specs.{Meaning.extreme_over, Meaning.value, Laws.Meaning.extreme_late, Laws.Meaning.extreme_value}
 use Rattle.std.specs.Float.Ieee as Ieee
 use Rattle.table.specs.Named as Named
@@ -37,14 +37,14 @@ pub record Best (o : Order) (f : ℕ → Float) (m : ℕ) (x : Float) : Type 0 w
   pub oldest : (j : ℕ) → j < at → o.below (f j) x ≡ true
 
 -- The value is there and is the best of f 0 to f m.
-pub record Answers (o : Order) (f : ℕ → Float) (m : ℕ) (v : Value) : Type 0 where
+pub record Answers (o : Order) (f : ℕ → Float) (m : ℕ) (v : Option Float) : Type 0 where
   pub x : Float
-  pub there : v ≡ Number x
+  pub there : v ≡ Some x
   pub best : Best o f m x
 
 -- numbers, from the oldest on, at the bars from `first` to `first + m`
 pub record Numbers (h : History) (s : Series) (first m : ℕ) (f : ℕ → Float) : Type 0 where
-  pub shows : (j : ℕ) → j ≤ m → series_at h s (first + j) ≡ Number (f j)
+  pub shows : (j : ℕ) → j ≤ m → series_at h s (first + j) ≡ Some (f j)
   pub number : (j : ℕ) → j ≤ m → is_nan (f j) ≡ false
 
 -- ---- what is asked of an order, and that both are such
@@ -155,7 +155,7 @@ module _ (o : Order) (kind : ℕ) (laws : Ordered o kind) (f : ℕ → Float) wh
       let before = over h s first m (fewer h s first m all) in
       record {
         x = cond (o.below before.x (f (suc m))) (f (suc m)) before.x;
-        there = rw (before.there, all.shows (suc m) (omega arith)) (ap Number (laws.takes before.x (f (suc m))));
+        there = rw (before.there, all.shows (suc m) (omega arith)) (ap Some (laws.takes before.x (f (suc m))));
         best = one_more m before.x all.number before.best (o.below before.x (f (suc m))) refl;
       }
 

@@ -1,9 +1,9 @@
 -- Highest and Lowest on rows that a reader can follow, each as one table under one statement. Assumes nothing.
-use Rattle.std.specs.Prelude.{ℕ, ◌≡◌, refl, List, [], ◌∷◌, ◌++◌}
+use Rattle.std.specs.Prelude.{ℕ, ◌≡◌, refl, List, [], ◌∷◌, ◌++◌, Float, None, Option, Some}
 use Rattle.floats.specs.{Floats.float_of}
 use Rattle.rows.specs.{History.history_of}
 use Rattle.table.specs.{declared.series.Series.Series, declared.series.Series.TheVariants.Price, declared.series.Series.TheVariants.Slot, Trees.extreme}
-use Rattle.rules.specs.{declared.values.Value.Value, declared.values.Value.TheVariants.Missing, declared.values.Value.TheVariants.Number, Values.price_of}
+use Rattle.rules.specs.{Values.price_of}
 use Rattle.rules.specs.{Values.slot_of, Values.better, Values.took, Values.pick, Meaning.newest, Meaning.there, Meaning.series_at, Meaning.extreme_over}
 use Rattle.rules.specs.{Meaning.extreme_at, Meaning.value}
 use Rattle.std.specs.Float.Ieee as Ieee
@@ -33,7 +33,7 @@ without : List ℕ
 without = 0 ∷ 0 ∷ 0 ∷ 0 ∷ 0 ∷ 0 ∷ 0 ∷ ten ∷ []
 
 -- at the newest of these rows, of K slots, over n bars
-ask : ℕ → List ℕ → ℕ → Series → ℕ → Value
+ask : ℕ → List ℕ → ℕ → Series → ℕ → Option Float
 ask K ws kind s n = value (history_of K ws) (extreme kind s n) (newest (history_of K ws))
 
 close : Series
@@ -42,7 +42,7 @@ close = Price 3
 rows : List ℕ
 rows = row twelve ++ (row ten ++ (row eleven ++ row ten))
 
-pub cases : List Value
+pub cases : List (Option Float)
 cases =
     ask 0 rows Named.highest close 4 ∷
     ask 0 rows Named.highest close 3 ∷
@@ -62,10 +62,10 @@ cases =
 -- the highest of five is missing. Of a zero and a zero with a sign the older, both ways and for both kinds. Of slots 10, 12, 11 the highest is 12; with the
 -- second absent it is missing, and the lowest of one is 11.
 pub worked : cases ≡
-    (Number (float_of twelve) ∷ Number (float_of eleven) ∷ Number (float_of ten) ∷ Number (float_of ten) ∷ Number (float_of ten) ∷
-    Number (float_of eleven) ∷ Missing ∷
-    Number (float_of 0) ∷ Number (float_of minus_zero) ∷ Number (float_of 0) ∷
-    Number (float_of twelve) ∷ Missing ∷ Number (float_of eleven) ∷ [])
+    (Some (float_of twelve) ∷ Some (float_of eleven) ∷ Some (float_of ten) ∷ Some (float_of ten) ∷ Some (float_of ten) ∷
+    Some (float_of eleven) ∷ None ∷
+    Some (float_of 0) ∷ Some (float_of minus_zero) ∷ Some (float_of 0) ∷
+    Some (float_of twelve) ∷ None ∷ Some (float_of eleven) ∷ [])
 unfolding row with_slot without ask close rows cases history_of newest there series_at extreme_over extreme_at value price_of slot_of
     better took pick Ieee.lt Ieee.of_bits
 worked = refl

@@ -2,12 +2,13 @@
 -- reach and their steps are those of the kinds that version 1 has.
 use Rattle.std.specs.Prelude.{ℕ, ◌<◌, ◌≡◌, true, List}
 use Rattle.words.specs.Prelude.{sym, true≢false, ⊎_elim, eq-zero-or-pos}
-use Rattle.table.specs.{declared.answer.Answer.TheVariants.Accepted, declared.header.Form.Form, Bytes.Bytes, Header.version, Header.count}
+use Rattle.table.specs.{declared.header.Form.Form, Bytes.Bytes, Header.version, Header.count}
 use Rattle.table.specs.{Header.form_of, Kinds.kind_of, Kinds.extremum, Laws.Kinds.extreme_since_lem, Nodes.kind_right, Checked.checked, Forest.trees, Forest.forest_of}
 use Rattle.table.specs.{Reading.first_of, Reading.conditions, Reading.tree_of, Limits.Within, Limits.WithinOf, Limits.WithinAll, Trees.Operand, Trees.const}
 use Rattle.table.specs.{Trees.ref, Trees.price, Trees.prev, Trees.arith, Trees.extreme, Trees.Condition, Trees.Conditions, Trees.compare, Trees.cross}
 use Rattle.table.specs.{Trees.between, Trees.trend, Trees.every, Trees.any, Trees.negated, Trees.in_position, Trees.bars_since, Trees.none, Trees.more}
 use Rattle.roundtrip.specs.{Laws.AcceptedWithin.tree_within}
+use Rattle.table.specs.{Outcome.accepts}
 
 -- a tree without Highest and Lowest
 unfoldable pub HasNone : Operand → Type 0
@@ -73,7 +74,7 @@ unfolding tree_of forest_of trees conditions first_of HoldsNone
 absent_none t x e = rw e tt
 
 -- VERSION 1 HAS NONE: no tree of an accepted table of version 1 holds a Highest or a Lowest.
-pub first_version_has_none : (t : List ℕ) → Bytes t → (n r : ℕ) → checked t ≡ Accepted n r → version t ≡ 1 → (x : ℕ) → x < 4 → HoldsNone (tree_of t x)
+pub first_version_has_none : (t : List ℕ) → Bytes t → (n r : ℕ) → checked t ≡ accepts n r → version t ≡ 1 → (x : ℕ) → x < 4 → HoldsNone (tree_of t x)
 first_version_has_none t small n r ok one x l = ⊎_elim
     (λ none. absent_none t x none)
     (λ some. holds_none (form_of t) one (tree_of t x) (tree_within t small n r ok x l some).fields)

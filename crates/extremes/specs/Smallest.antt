@@ -1,11 +1,11 @@
 -- D cannot be smaller for Highest and Lowest either: rows on which the steps answer yes over D = reach + 1 of them and no over one less, as
 -- steps/specs/Smallest.antt has them for the other kinds that look back.
-use Rattle.std.specs.Prelude.{ℕ, ◌+◌, ◌≡◌, refl, Bool, true, false, List, [], ◌∷◌, ◌++◌}
+use Rattle.std.specs.Prelude.{ℕ, ◌+◌, ◌≡◌, refl, Bool, true, false, List, [], ◌∷◌, ◌++◌, None}
 use Rattle.floats.specs.{Floats.zero}
 use Rattle.rows.specs.{History.history_of, History.last_rows}
 use Rattle.table.specs.{declared.series.Series.TheVariants.Price, declared.series.Series.TheVariants.Slot, Trees.const, Trees.prev, Trees.extreme}
 use Rattle.table.specs.{Trees.Condition, Trees.compare, Trees.reach, Trees.reach_of}
-use Rattle.rules.specs.{declared.position.PositionState.PositionState, declared.position.Entered.TheVariants.Never, Values.price_of, Values.slot_of}
+use Rattle.rules.specs.{declared.position.PositionState.PositionState, Values.price_of, Values.slot_of}
 use Rattle.rules.specs.{Values.better, Values.took, Values.pick, Values.tested, Values.compared, Meaning.newest, Meaning.there, Meaning.series_at}
 use Rattle.rules.specs.{Meaning.extreme_over, Meaning.extreme_at, Meaning.value}
 use Rattle.steps.specs.{Machine.ago, Machine.effect, Machine.does, Machine.after_step, Machine.run, Machine.answers, Smallest.Pair, Translation.code}
@@ -24,7 +24,7 @@ eleven : ℕ
 eleven = 0x4026_0000_0000_0000
 
 flat : PositionState
-flat = record { qty = zero; entered = Never; bars_seen = 1 }
+flat = record { qty = zero; entered = None; bars_seen = 1 }
 
 -- the steps of a condition over the last `rows` of the rows
 over_last : ℕ → List ℕ → Condition → Bool

@@ -1,19 +1,20 @@
 -- What a restore answers and leaves, refused or done.
+use Rattle.std.specs.Prelude.{Err, Ok}
 use Rattle.words.specs.Prelude.{ℕ, ◌*◌, ◌≤◌, ◌≡◌, List, mul-le-mul_right, le_trans, arith, length}
 use Rattle.words.specs.{declared.refusal.Refusal.Refusal, Limits.row_words, Words.overwrite, Laws.Records.records_fit}
 use Rattle.records.specs.{declared.settings.Settings.Settings, declared.state.State.State}
-use Rattle.refusals.specs.{declared.verdict.Verdict.Verdict, declared.verdict.Verdict.TheVariants.Fine, declared.verdict.Verdict.TheVariants.Bad}
-use Rattle.images.specs.{declared.reader.Restored.TheVariants.Refused, declared.reader.Restored.TheVariants.Done, Reading.slots_in}
+use Rattle.images.specs.{Reading.slots_in}
 use Rattle.images.specs.{Reading.rows_in, Reading.state_in, Reading.window_in, Refused.restore_judged, Refused.left_by, Restoring.restored_by}
 use Rattle.images.specs.{Restoring.Restores, Laws.Fine.RestoreFine}
+use Rattle.refusals.specs.{Lines.Verdict}
 
 module _ (s : Settings) (image rows : List ℕ) {v : Verdict} (judge : v ≡ restore_judged s image rows) where
-  pub restore_refused : {r : Refusal} → v ≡ Bad r → Restores s image rows (Refused r) rows
+  pub restore_refused : {r : Refusal} → v ≡ Err r → Restores s image rows (Err r) rows
   unfolding left_by restored_by
   restore_refused bad = record { answer = rw (← judge, bad); leaves = rw (← judge, bad) }
 
-  pub restore_done : {t : State} {after : List ℕ} → v ≡ Fine → t ≡ state_in image → after ≡ overwrite rows 0 (window_in image)
-      → Restores s image rows (Done t) after
+  pub restore_done : {t : State} {after : List ℕ} → v ≡ Ok tt → t ≡ state_in image → after ≡ overwrite rows 0 (window_in image)
+      → Restores s image rows (Ok t) after
   unfolding left_by restored_by
   restore_done fine e f = record { answer = rw (← judge, fine, e); leaves = rw (← judge, fine) f }
 

@@ -1,12 +1,14 @@
 -- What a restore refuses: 10, 12, 19, 20; and what a refused call leaves.
-use Rattle.std.specs.Prelude.{ℕ, ◌+◌, ◌-◌, ◌/◌, ◌%◌, ◌^◌, Bool, true, false, ◌&&◌, ◌||◌, List, [], ◌∷◌, ◌++◌, length, get_or, leb, ltb, eqb}
+use Rattle.std.specs.Prelude.{ℕ, ◌+◌, ◌-◌, ◌/◌, ◌%◌, ◌^◌, Bool, true, false, ◌&&◌, ◌||◌, List, [], ◌∷◌, ◌++◌, length, get_or, leb, ltb, eqb, Err, Ok}
 use Rattle.words.specs.{Limits.most_slots, Limits.most_rows}
 use Rattle.records.specs.{declared.settings.Settings.Settings, StateWords.entered_of}
-use Rattle.refusals.specs.{declared.verdict.Verdict.Verdict, declared.verdict.Verdict.TheVariants.Fine, declared.verdict.Verdict.TheVariants.Bad, Bar.every}
+use Rattle.refusals.specs.{Bar.every}
 use Rattle.refusals.specs.{Bar.bar_lines, Lines.Line, Lines.line, Lines.judged, Rooms.room_lines, Rooms.entry_below, Settings.setting_lines}
 use Rattle.images.specs.{Layout.head_bytes, Layout.dump_bytes, Reading.slots_in, Reading.version_in, Reading.depth_in, Reading.seen_in, Reading.rows_in}
 use Rattle.images.specs.{Reading.order_in, Reading.kind_in, Reading.entered_in, Reading.entry_in, Reading.delay_in, Reading.level_in, Reading.limit_in}
 use Rattle.images.specs.{Reading.row_place, Reading.row_in}
+use Rattle.refusals.specs.{Lines.Verdict}
+use Rattle.words.specs.declared.refusal.Refusal.TheVariants as Refusal
 
 -- "another mark or version, D outside 1 to 4,096, K above 64, a size not theirs"; one with no whole header has no size of its own
 unfoldable pub shape_fine : List ℕ → Bool
@@ -48,8 +50,8 @@ unfoldable pub zero_at : List ℕ → ℕ → ℕ → Bool
 zero_at x at n = every n (λ i. eqb (get_or x (at + i) 0) 0)
 
 abbrev pub is_fine : Verdict → Bool
-is_fine Fine = true
-is_fine (Bad why) = false
+is_fine (Ok tt) = true
+is_fine (Err why) = false
 
 -- "an absent slot's word is 0": of a row, by its mask
 unfoldable pub absent_zero : ℕ → List ℕ → Bool
@@ -73,17 +75,17 @@ rows_fine x =
 -- below bars seen, a row 11 would refuse, an unknown kind or a nonzero spare byte": 19 and 136 to 255 are spare
 unfoldable pub image_lines : List ℕ → List Line
 image_lines x =
-    line (shape_fine x) 19 0
-    ∷ line (numbers_fine x) 19 0
-    ∷ line (unused_zero x) 19 0
-    ∷ line (eqb (get_or x 19 0) 0) 19 0
-    ∷ line (zero_at x 136 120) 19 0
-    ∷ line (rows_fine x) 19 0
+    line (shape_fine x) Refusal.Image
+    ∷ line (numbers_fine x) Refusal.Image
+    ∷ line (unused_zero x) Refusal.Image
+    ∷ line (eqb (get_or x 19 0) 0) Refusal.Image
+    ∷ line (zero_at x 136 120) Refusal.Image
+    ∷ line (rows_fine x) Refusal.Image
     ∷ []
 
 -- "then 20 if its D or K is not that of the table and settings"
 unfoldable pub same_lines : Settings → List ℕ → List Line
-same_lines s x = line (eqb (depth_in x) s.depth) 20 0 ∷ line (eqb (slots_in x) s.slots) 20 0 ∷ []
+same_lines s x = line (eqb (depth_in x) s.depth) Refusal.Other ∷ line (eqb (slots_in x) s.slots) Refusal.Other ∷ []
 
 unfoldable pub restore_lines : Settings → List ℕ → List ℕ → List Line
 restore_lines s x rows = room_lines s rows ++ (setting_lines s ++ (image_lines x ++ same_lines s x))
@@ -93,5 +95,5 @@ restore_judged s x rows = judged (restore_lines s x rows)
 
 -- "A refusal .. changes nothing lent."
 unfoldable pub left_by : Verdict → List ℕ → List ℕ → List ℕ
-left_by Fine after before = after
-left_by (Bad why) after before = before
+left_by (Ok tt) after before = after
+left_by (Err why) after before = before

@@ -130,52 +130,49 @@ fn rows_fine(image: &[u8]) -> bool
 fn judge_image(image: &[u8]) -> Verdict
     ensures { result ≡ judged (image_lines image.now) }
 {
-    let torn = Refusal {
-        number: 19,
-        place: 0,
-    };
+    let torn = Refusal::Image;
     if !shape_fine(image) {
-        return Verdict::Bad(torn);
+        return Err(torn);
     }
     if !numbers_fine(image) {
-        return Verdict::Bad(torn);
+        return Err(torn);
     }
     if !unused_zero(image) {
-        return Verdict::Bad(torn);
+        return Err(torn);
     }
     if byte(image, layout::SPARE) != 0 {
-        return Verdict::Bad(torn);
+        return Err(torn);
     }
     if !zero_at(image, layout::SPARE_TAIL, layout::SPARE_TAIL_BYTES) {
-        return Verdict::Bad(torn);
+        return Err(torn);
     }
     if !rows_fine(image) {
-        return Verdict::Bad(torn);
+        return Err(torn);
     }
-    Verdict::Fine
+    Ok(())
 }
 
 // 20.
 fn judge_same(s: Settings, image: &[u8]) -> Verdict
     ensures { result ≡ judged (same_lines s image.now) }
 {
-    let below = Verdict::Fine;
-    let below = line(byte(image, layout::SLOTS) as usize == s.slots, 20, 0, below);
-    line(read16(image, layout::DEPTH) == s.depth, 20, 0, below)
+    let below = Ok(());
+    let below = line(byte(image, layout::SLOTS) as usize == s.slots, Refusal::Other, below);
+    line(read16(image, layout::DEPTH) == s.depth, Refusal::Other, below)
 }
 
 // All of it.
 pub(crate) fn judge_restore(s: Settings, image: &[u8], rows: &[u64]) -> Verdict
     ensures { result ≡ restore_judged s image.now rows.now }
 {
-    if let Verdict::Bad(refusal) = judge_room(s, rows) {
-        return Verdict::Bad(refusal);
+    if let Err(refusal) = judge_room(s, rows) {
+        return Err(refusal);
     }
-    if let Verdict::Bad(refusal) = judge_settings(s) {
-        return Verdict::Bad(refusal);
+    if let Err(refusal) = judge_settings(s) {
+        return Err(refusal);
     }
-    if let Verdict::Bad(refusal) = judge_image(image) {
-        return Verdict::Bad(refusal);
+    if let Err(refusal) = judge_image(image) {
+        return Err(refusal);
     }
     judge_same(s, image)
 }

@@ -7,17 +7,17 @@ pub mod reader;
 
 ghost use Rattle.images.specs.Restoring.{Restores};
 
-use reader::Restored;
+use words::refusal::Refusal;
+use records::state::State;
 use records::settings::Settings;
-use refusals::verdict::Verdict;
 
 // The state that an image holds, and its window over the first words of the row room.
-pub fn restore(s: Settings, image: &[u8], rows: &mut [u64]) -> Restored
+pub fn restore(s: Settings, image: &[u8], rows: &mut [u64]) -> Result<State, Refusal>
     ensures { Restores s image.now rows.old result rows.new }
 {
-    if let Verdict::Bad(refusal) = judge::judge_restore(s, image, rows) {
-        return Restored::Refused(refusal);
+    if let Err(refusal) = judge::judge_restore(s, image, rows) {
+        return Err(refusal);
     }
     reader::read_window(image, rows);
-    Restored::Done(reader::state_in(image))
+    Ok(reader::state_in(image))
 }

@@ -10,14 +10,6 @@ use crate::layout::HEAD_BYTES;
 use records::state::State;
 use table::bytes::{byte, read32, read64};
 use words::limits::ROW_FIXED;
-use words::refusal::Refusal;
-
-// What a restore comes to.
-#[derive(Clone, Copy)]
-pub enum Restored {
-    Refused(Refusal),
-    Done(State),
-}
 
 // The word whose first byte is at `at`, with no test of its own: its eight bytes are loaded as one.
 pub(crate) fn word_at(image: &[u8], at: usize) -> u64

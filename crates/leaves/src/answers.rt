@@ -1,8 +1,7 @@
 // What each case comes to.
 use crate::cases;
-use execution::fills::{Entry, Exit};
+use execution::fills::Entry;
 use execution::intrabar::Trigger;
-use execution::optional::Optional;
 use execution::terms::Slippage;
 use execution::{costs, fills, intrabar, size};
 use portfolio::{Closed, Portfolio, SIGNAL};
@@ -54,7 +53,7 @@ pub(crate) fn left_of(case: &[u64]) -> Exit {
     intrabar::apply_intrabar_exits(candle, terms, pf, extreme_of(case))
 }
 
-pub(crate) fn trigger_of(case: &[u64]) -> Trigger {
+pub(crate) fn trigger_of(case: &[u64]) -> Option<Trigger> {
     let risk = cases::risk(case, 1);
     let candle = cases::candle(case, 12);
     let entry = cases::float(case, 0, 18);

@@ -1,7 +1,6 @@
 // The parts of a case, each read from its place among the case's words, which are 0 past the end.
 use execution::costs::Funding;
 use execution::level::Side;
-use execution::optional::Optional;
 use execution::terms::{Risk, Sizing, Slippage, Terms};
 use portfolio::{Candle, Portfolio};
 
@@ -21,9 +20,9 @@ pub(crate) fn flag(case: &[u64], base: usize, j: usize) -> bool {
 // A flag, and the number after it. The flags stand at even places.
 pub(crate) fn optional(case: &[u64], base: usize, j: u8) -> Optional {
     if flag(case, base, j as usize) {
-        return Optional::Of(float(case, base, j as usize + 1));
+        return Some(float(case, base, j as usize + 1));
     }
-    Optional::Absent
+    None
 }
 
 pub(crate) fn sizing(case: &[u64], base: usize) -> Sizing {
@@ -108,9 +107,9 @@ pub(crate) fn side(case: &[u64], base: usize) -> Side {
 
 pub(crate) fn funding(case: &[u64], base: usize) -> Funding {
     if flag(case, base, 0) {
-        return Funding::Supplied(float(case, base, 1), float(case, base, 2));
+        return Some(Funding { mark: float(case, base, 1), rate: float(case, base, 2) });
     }
-    Funding::NotSupplied
+    None
 }
 
 // The settings of an entry.
@@ -145,11 +144,11 @@ pub(crate) fn exit_terms(risk: Risk, taker_bps: f64, slippage: Slippage) -> Term
 // No level at all.
 pub(crate) fn no_risk() -> Risk {
     Risk {
-        stop_loss_pct: Optional::Absent,
-        trailing_stop_pct: Optional::Absent,
-        take_profit_pct: Optional::Absent,
-        max_leverage: Optional::Absent,
-        max_position_pct: Optional::Absent,
+        stop_loss_pct: None,
+        trailing_stop_pct: None,
+        take_profit_pct: None,
+        max_leverage: None,
+        max_position_pct: None,
         liquidation: false,
     }
 }

@@ -1,21 +1,21 @@
 // The words of the answers.
+use portfolio::Closed;
 use crate::cases;
-use execution::fills::{Entry, Exit};
+use execution::fills::Entry;
 use execution::intrabar::Trigger;
-use execution::optional::Optional;
 use portfolio::{Portfolio, Trade};
 
-pub(crate) fn optional_words(value: Optional) -> [u64; 2] {
+pub(crate) fn optional_words(value: Option<f64>) -> [u64; 2] {
     match value {
-        Optional::Absent => [0, 0],
-        Optional::Of(x) => [1, floats::word_of(x)],
+        None => [0, 0],
+        Some(x) => [1, floats::word_of(x)],
     }
 }
 
-pub(crate) fn trigger_words(trigger: Trigger) -> [u64; 2] {
+pub(crate) fn trigger_words(trigger: Option<Trigger>) -> [u64; 2] {
     match trigger {
-        Trigger::Untouched => [0, 0],
-        Trigger::At(price, reason) => [reason, floats::word_of(price)],
+        None => [0, 0],
+        Some(Trigger { price, reason }) => [reason, floats::word_of(price)],
     }
 }
 
@@ -38,10 +38,10 @@ pub(crate) fn after_entry(entry: Entry, pf: Portfolio) -> Portfolio {
     }
 }
 
-pub(crate) fn after_exit(exit: Exit, pf: Portfolio) -> Portfolio {
+pub(crate) fn after_exit(exit: Option<Closed>, pf: Portfolio) -> Portfolio {
     match exit {
-        Exit::NoExit => pf,
-        Exit::Exited(closed) => {
+        None => pf,
+        Some(closed) => {
             let left = closed.portfolio;
             left
         }
@@ -65,17 +65,17 @@ pub(crate) fn entry_marks(entry: Entry, case: &[u64]) -> [u64; 3] {
     }
 }
 
-pub(crate) fn entry_bar(exit: Exit, flag: u64, bar: u64) -> [u64; 2] {
+pub(crate) fn entry_bar(exit: Option<Closed>, flag: u64, bar: u64) -> [u64; 2] {
     match exit {
-        Exit::NoExit => [flag, bar],
-        Exit::Exited(_) => [0, 0],
+        None => [flag, bar],
+        Some(_) => [0, 0],
     }
 }
 
-pub(crate) fn closed_flag(exit: Exit) -> u64 {
+pub(crate) fn closed_flag(exit: Option<Closed>) -> u64 {
     match exit {
-        Exit::NoExit => 0,
-        Exit::Exited(_) => 1,
+        None => 0,
+        Some(_) => 1,
     }
 }
 
@@ -85,10 +85,10 @@ pub(crate) fn trade_words(trade: Trade) -> [u64; 8] {
     [w[0], w[1], w[2], w[3], w[4], w[5], w[6], w[7]]
 }
 
-pub(crate) fn closed_words(exit: Exit) -> [u64; 8] {
+pub(crate) fn closed_words(exit: Option<Closed>) -> [u64; 8] {
     match exit {
-        Exit::NoExit => [0; 8],
-        Exit::Exited(closed) => {
+        None => [0; 8],
+        Some(closed) => {
             let trade = closed.trade;
             trade_words(trade)
         }

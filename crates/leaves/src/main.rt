@@ -6,9 +6,6 @@ mod cases;
 mod fields;
 
 ghost use Rattle.std.specs.Prelude.{◌≤◌};
-
-use execution::fills::Exit;
-use execution::optional::Optional;
 use execution::volatility;
 use portfolio::{Closed, Portfolio};
 use std::io;
@@ -65,7 +62,7 @@ fn write_entry(output: &mut impl Write, case: &[u64], rows: &[u64]) -> io::Resul
 // The portfolio and the entry bar after an exit.
 fn write_left(
     output: &mut impl Write,
-    exit: Exit,
+    exit: Option<Closed>,
     case: &[u64],
     portfolio_at: usize,
     entry_bar_at: usize,
@@ -80,7 +77,7 @@ fn write_left(
 }
 
 // Whether an exit closed a trade, and the trade.
-fn write_trade(output: &mut impl Write, exit: Exit) -> io::Result<()> {
+fn write_trade(output: &mut impl Write, exit: Option<Closed>) -> io::Result<()> {
     let flag = [fields::closed_flag(exit)];
     let trade = fields::closed_words(exit);
     write_words(output, &flag, b' ')?;
@@ -110,7 +107,7 @@ fn write_closed(output: &mut impl Write, closed: Closed) -> io::Result<()> {
     write_words(output, &trade_words, b'\n')
 }
 
-fn write_optional(output: &mut impl Write, value: Optional) -> io::Result<()> {
+fn write_optional(output: &mut impl Write, value: Option<f64>) -> io::Result<()> {
     let words = fields::optional_words(value);
     write_words(output, &words, b'\n')
 }

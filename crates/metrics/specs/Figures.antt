@@ -1,8 +1,8 @@
 -- `compute` of metrics.rs: the nine figures, and what a call answers. Definitions only.
-use Rattle.std.specs.Prelude.{List, [], ◌∷◌, cond, ℕ, length, Float}
+use Rattle.std.specs.Prelude.{List, [], ◌∷◌, cond, ℕ, length, Float, Err, Ok, Result}
 use Rattle.words.specs.{declared.refusal.Refusal.Refusal, Outcome.Outcome, Outcome.gives, Outcome.refuses}
 use Rattle.floats.specs.{Floats.◌⊖◌, Floats.word_of, Sums.return_pct}
-use Rattle.metrics.specs.{declared.Metrics.Metrics, declared.Answer.Answer, declared.Answer.TheVariants.Done, declared.Answer.TheVariants.Refused}
+use Rattle.metrics.specs.{declared.Metrics.Metrics}
 use Rattle.metrics.specs.{Records.equity_of, Records.pnls_of, Records.whole, Quotients.gain_over, Returns.sharpe_ratio, Returns.sortino_ratio}
 use Rattle.metrics.specs.{Drawdown.max_drawdown_pct, Trades.win_rate, Trades.profit_factor}
 
@@ -30,9 +30,9 @@ metrics_of initial equity pnls =
     }
 
 -- What an answer says in the paper's terms: the figures, or a refusal.
-unfoldable pub outcome : Answer → Outcome Metrics
-outcome (Done m) = gives m
-outcome (Refused refusal) = refuses refusal
+unfoldable pub outcome : Result Metrics Refusal → Outcome Metrics
+outcome (Ok m) = gives m
+outcome (Err refusal) = refuses refusal
 
 -- "13 | .. a row, bar or trade list is not whole records .. | 0"
 abbrev pub not_whole : Refusal

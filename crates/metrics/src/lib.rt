@@ -6,9 +6,8 @@ pub mod quotient;
 pub mod returns;
 pub mod trades;
 
-ghost use Rattle.std.specs.Prelude.{◌≡◌};
+ghost use Rattle.std.specs.Prelude.{◌≡◌, Err};
 ghost use Rattle.metrics.specs.Records.{equity_of, pnls_of};
-ghost use Rattle.metrics.specs.declared.Answer.TheVariants.{Refused};
 ghost use Rattle.metrics.specs.Figures.{final_equity, metrics_of, not_whole, outcome, computed, figure_words};
 
 use words::limits::{METRIC_WORDS, POINT_WORDS, TRADE_WORDS};
@@ -37,21 +36,11 @@ pub struct Metrics {
     pub num_trades: u64,
 }
 
-// The figures, or a refusal.
-#[derive(Clone, Copy)]
-pub enum Answer {
-    Done(Metrics),
-    Refused(Refusal),
-}
-
 // 13 at 0: a list is not whole records.
-fn not_whole() -> Answer
-    ensures { result ≡ Refused not_whole }
+fn not_whole() -> Result<Metrics, Refusal>
+    ensures { result ≡ Err not_whole }
 {
-    Answer::Refused(Refusal {
-        number: 13,
-        place: 0,
-    })
+    Err(Refusal::Records)
 }
 
 // The last point's equity, or the capital where there is no point.
@@ -89,7 +78,7 @@ pub fn metrics_of(initial: f64, equity: &[u64], trades: &[u64]) -> Metrics
 
 // The figures of two lists of whole records; refusal 13 where one is not.
 #[tactic(auto, unfolding(crate::specs::Figures::outcome, crate::specs::Figures::computed, crate::specs::Records::whole))]
-pub fn compute(initial: f64, equity: &[u64], trades: &[u64]) -> Answer
+pub fn compute(initial: f64, equity: &[u64], trades: &[u64]) -> Result<Metrics, Refusal>
     ensures { outcome result ≡ computed initial equity.now trades.now }
 {
     if equity.len() % POINT_WORDS != 0 {
@@ -98,7 +87,7 @@ pub fn compute(initial: f64, equity: &[u64], trades: &[u64]) -> Answer
     if trades.len() % TRADE_WORDS != 0 {
         return not_whole();
     }
-    Answer::Done(metrics_of(initial, equity, trades))
+    Ok(metrics_of(initial, equity, trades))
 }
 
 // The figures as words, in the Rust record's order.

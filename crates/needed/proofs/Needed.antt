@@ -1,15 +1,16 @@
 -- The rows that an accepted table needs, beside a lookback.
 use Rattle.words.specs.Prelude.{ℕ, ◌+◌, ◌*◌, ◌≤◌, ◌<◌, max, ◌≡◌, List, arith, mul-le-mul_right}
 use Rattle.words.specs.{Limits.most_rows}
-use Rattle.table.specs.{declared.answer.Answer.TheVariants.Accepted, Checked.checked, Reach.rows_needed, Laws.Accepted.accepted, Laws.Accepted.tree_reach_lem}
+use Rattle.table.specs.{Checked.checked, Reach.rows_needed, Laws.Accepted.accepted, Laws.Accepted.tree_reach_lem}
 use Rattle.table.specs.{Depth.greatest_reach, Depth.depth_of}
 use Rattle.roundtrip.specs.{Laws.Reach.rows_are}
+use Rattle.table.specs.{Outcome.accepts}
 
-pub needed : (t : List ℕ) (n r lookback : ℕ) → checked t ≡ Accepted n r → max r (lookback + 1) ≡ depth_of t lookback
+pub needed : (t : List ℕ) (n r lookback : ℕ) → checked t ≡ accepts n r → max r (lookback + 1) ≡ depth_of t lookback
 unfolding depth_of greatest_reach
 needed t n r lookback ok = omega (arith, rows_are t n r ok)
 
-pub few : (t : List ℕ) (n r : ℕ) → checked t ≡ Accepted n r → r ≤ most_rows
+pub few : (t : List ℕ) (n r : ℕ) → checked t ≡ accepts n r → r ≤ most_rows
 unfolding rows_needed
 few t n r ok =
     omega (

@@ -3,19 +3,12 @@ ghost use Rattle.std.specs.Prelude.{◌≡◌, ◌<◌};
 ghost use Rattle.table.specs.Checked.{checked};
 ghost use Rattle.table.specs.Depth.{row_bytes};
 ghost use Rattle.needed.specs.Depth.{depth_answer};
-
-use table::answer::Answer;
+use crate::depth::Needs;
+use table::answer::Accepted;
 use table::check;
 use table::header::slots;
 use words::limits::MOST_REACH;
 use words::refusal::Refusal;
-
-// The answer to how many rows a rule needs: their number, the bytes of a row and of all of them, or the refusal.
-#[derive(Clone, Copy)]
-pub enum DepthAnswer {
-    Needs { rows: u64, row: u64, window: u64 },
-    Refuses(Refusal),
-}
 
 // The number of that setting.
 pub const SETTING_LOOKBACK: u64 = 7;
@@ -28,27 +21,20 @@ fn row_bytes(t: &[u8]) -> u64
 }
 
 // The rows that the rules of a table need beside a volatility target's lookback, which is 0 where there is none.
-pub fn depth(t: &[u8], lookback: u64) -> DepthAnswer
+pub fn depth(t: &[u8], lookback: u64) -> Result<Needs, Refusal>
     ensures { result ≡ depth_answer (checked t.now) t.now lookback }
 {
     let checked = check(t);
     let answer = checked.answer;
     match answer {
-        Answer::Refused(refusal) => DepthAnswer::Refuses(refusal),
-        Answer::Accepted { nodes: _, rows } => {
+        Err(refusal) => Err(refusal),
+        Ok(Accepted { nodes: _, rows }) => {
             if MOST_REACH < lookback {
-                return DepthAnswer::Refuses(Refusal {
-                    number: 12,
-                    place: SETTING_LOOKBACK,
-                });
+                return Err(Refusal::Setting(SETTING_LOOKBACK));
             }
             let needed = rows.max(lookback + 1);
             let row = row_bytes(t);
-            DepthAnswer::Needs {
-                rows: needed,
-                row,
-                window: needed * row,
-            }
+            Ok(Needs { rows: needed, row, window: needed * row })
         }
     }
 }

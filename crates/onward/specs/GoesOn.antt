@@ -1,9 +1,9 @@
 -- Request 14 OVER A LOSS OF SUPPLY. Four accounts ride on one stream. The supply fails, however often; each account is dumped by `ysh_dump` and restored by
 -- `ysh_restore`, and the caller has kept the stream's words and the statuses. Then `ysh_accounts` goes on with them as with four whose supply never failed.
-use Rattle.std.specs.Prelude.{ℕ, ◌+◌, ◌≤◌, ◌≡◌, true, List, ◌++◌, length}
+use Rattle.std.specs.Prelude.{ℕ, ◌+◌, ◌≤◌, ◌≡◌, true, List, ◌++◌, length, Ok}
 use Rattle.words.specs.{Limits.bar_words, Limits.most_count, Words.word}
 use Rattle.records.specs.{Lent.point_places, Lent.trade_places, Settings.settings_of, StateWords.state_of}
-use Rattle.refusals.specs.{declared.verdict.Verdict.TheVariants.Fine, Day.whole_bars}
+use Rattle.refusals.specs.{Day.whole_bars}
 use Rattle.engine.specs.{Day.in_records, Whole.account_of}
 use Rattle.restart.specs.{Laws.Reached64.Bars64}
 use Rattle.accounts.specs.{Profile.profile_judged}
@@ -68,7 +68,7 @@ module _ (g : Four) (l k : AccountsLent) (before bars : List ℕ) where
     -- bars of `before`, lost its supply any number of times, each driven by the rules and restored with an answer of 0, and is lent in k what the last
     -- restore left.
     pub record Lost : Type 0 where
-      pub fits : profile_judged own.table (settings_of own.settings) slots ≡ Fine
+      pub fits : profile_judged own.table (settings_of own.settings) slots ≡ Ok tt
       pub runs : word (lent_to which l).status 0 ≡ 0
       pub begun : Begun own.table own.settings (own_lists own) (box_of (lent_to which l))
       pub box : StepLent

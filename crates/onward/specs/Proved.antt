@@ -1,10 +1,9 @@
 -- Accounts over a loss of supply, proved: on the stream an account is `ysh_step` over its own bars (`as_if_alone`), of which the capacitor theorem speaks.
-use Rattle.std.specs.Prelude.{ℕ, ◌+◌, ◌/◌, ◌%◌, ◌^◌, ◌≤◌, ◌≡◌, refl, Bool, true, false, cond, List, [], ◌∷◌, ◌++◌, eqb, length, take}
+use Rattle.std.specs.Prelude.{ℕ, ◌+◌, ◌/◌, ◌%◌, ◌^◌, ◌≤◌, ◌≡◌, refl, Bool, true, false, cond, List, [], ◌∷◌, ◌++◌, eqb, length, take, Err, Ok}
 use Rattle.words.specs.Prelude.{sym, ap, subst, ◌∙◌, append-nil, arith}
 use Rattle.words.specs.Prelude.{eq-eqb, eqb-true, eqb-false, length-append}
 use Rattle.words.specs.{Limits.most_count, Words.word}
 use Rattle.records.specs.{Lent.Lists, Lent.point_places, Lent.trade_places, Settings.settings_of, StateWords.state_of}
-use Rattle.refusals.specs.{declared.verdict.Verdict.Verdict, declared.verdict.Verdict.TheVariants.Fine, declared.verdict.Verdict.TheVariants.Bad}
 use Rattle.refusals.specs.{Lines.judged, Laws.Lines.never, Lines.first_bad}
 use Rattle.engine.specs.{Whole.account_of}
 use Rattle.restart.specs.{Laws.Reached64.Bars64}
@@ -21,6 +20,7 @@ use Rattle.beside.specs.{Appended.more_calls, Appended.calls_behind, Honest.acco
 use Rattle.beside.specs.{Parts.call_behind, Parts.rooms_stay, Parts.slots_stay}
 use Rattle.onward.specs.{GoesOn.box_of, GoesOn.took, GoesOn.sofar, GoesOn.unbroken, GoesOn.onward, GoesOn.Kept, GoesOn.Lost, GoesOn.AsUnbroken}
 use Rattle.onward.specs.{GoesOn.GoesOn}
+use Rattle.refusals.specs.{Lines.Verdict}
 use Rattle.std.proofs.Math.Seq.{take-append-add}
 
 -- ---- a run of steps, with and without losses
@@ -78,17 +78,17 @@ front_64 [] b h = tt
 front_64 (bar ∷ a) b h = (h.0, front_64 a b h.1)
 
 -- where the first of two that is not fine would decide, and none does
-first_fine : (v w : Verdict) → first_bad v w ≡ Fine → v ≡ Fine
-first_fine Fine w e = refl
-first_fine (Bad why) w e = never e
+first_fine : (v w : Verdict) → first_bad v w ≡ Ok tt → v ≡ Ok tt
+first_fine (Ok tt) w e = refl
+first_fine (Err why) w e = never e
 
 -- a call of which nothing is refused has rooms with their words
-answered_rooms : (bars : List ℕ) (g : Four) (l : AccountsLent) → (accounts_call bars g l).answer ≡ 0 → rooms_judged bars g l ≡ Fine
+answered_rooms : (bars : List ℕ) (g : Four) (l : AccountsLent) → (accounts_call bars g l).answer ≡ 0 → rooms_judged bars g l ≡ Ok tt
 answered_rooms bars g l e = first_fine (rooms_judged bars g l) (taken bars g l).verdict ((accounts_honest bars g l).does e)
 
 -- an account that runs and fits the profile is `ysh_step` over its own part of the bars that the call took
-rides_alone : (bars : List ℕ) (g : Four) (l : AccountsLent) (which : Which) → rooms_judged bars g l ≡ Fine → word (lent_to which l).status 0 ≡ 0
-    → profile_judged (given_to which g).table (settings_of (given_to which g).settings) (word l.stream 0) ≡ Fine
+rides_alone : (bars : List ℕ) (g : Four) (l : AccountsLent) (which : Which) → rooms_judged bars g l ≡ Ok tt → word (lent_to which l).status 0 ≡ 0
+    → profile_judged (given_to which g).table (settings_of (given_to which g).settings) (word l.stream 0) ≡ Ok tt
     → Rode (word l.stream 1) (lent_to which l) (lent_to which (accounts_call bars g l).lent)
     (calls_over (given_to which g).settings (own_lists (given_to which g)) (box_of (lent_to which l))
     (took (word l.stream 0) (given_to which g) (accounts_call bars g l) bars))
@@ -165,13 +165,13 @@ module _ (g : Four) (l k : AccountsLent) (before bars : List ℕ) (kept : Kept g
   both : unbroken g l k before bars ≡ done_before c.lent.done next
   both = call_behind g l before bars kept.front kept.back ∙ rw (eq-eqb c.answer 0 kept.taken)
 
-  rooms : rooms_judged before g l ≡ Fine
+  rooms : rooms_judged before g l ≡ Ok tt
   rooms = answered_rooms before g l kept.taken
 
-  rooms_then : rooms_judged bars g c.lent ≡ Fine
+  rooms_then : rooms_judged bars g c.lent ≡ Ok tt
   rooms_then = rooms_stay before g l rooms
 
-  rooms_now : rooms_judged bars g k ≡ Fine
+  rooms_now : rooms_judged bars g k ≡ Ok tt
   rooms_now = agree_rooms c.lent k kept.stream kept.statuses ∙ rooms_then
 
   -- the stream is the same

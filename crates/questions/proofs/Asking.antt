@@ -1,15 +1,18 @@
 -- A question among many, and the verdict on all of them. Assumes nothing.
+use Rattle.std.specs.Prelude.{Err, Ok, Result}
 use Rattle.words.specs.Prelude.{ℕ, ◌+◌, ◌-◌, ◌*◌, ◌<◌, ◌≤◌, ◌≡◌, sym, ap, ◌∙◌, subst, List, [], ◌∷◌, add-one, arith, div-le_self, length, take}
 use Rattle.words.specs.{declared.refusal.Refusal.Refusal, Words.overwrite}
 use Rattle.rows.specs.{History.history_of}
-use Rattle.table.specs.{declared.answer.Answer.Answer, declared.answer.Answer.TheVariants.Accepted, declared.answer.Answer.TheVariants.Refused, Header.slots}
+use Rattle.table.specs.{Header.slots}
 use Rattle.table.specs.{Checked.checked}
 use Rattle.rules.specs.{declared.position.PositionState.PositionState}
 use Rattle.chain.specs.{Chain.ChainLine, Lines.chain_words, Explained.explanation}
-use Rattle.refusals.specs.{declared.verdict.Verdict.Verdict, declared.verdict.Verdict.TheVariants.Fine, declared.verdict.Verdict.TheVariants.Bad}
 use Rattle.refusals.specs.{Lines.judged}
 use Rattle.questions.specs.{Position.position_at, Over.asked_rows, Over.rows_to, Over.explanation_over, Over.place_words, Over.lines_over, Over.counts_over}
 use Rattle.questions.specs.{Over.over_lines, Over.over_by, Over.over_verdict, Laws.Fine.OverFine, Laws.Fine.over_fine, Laws.Upto.upto_fits}
+use Rattle.refusals.specs.{Lines.Verdict}
+use Rattle.table.specs.{declared.answer.Accepted.Accepted}
+use Rattle.table.specs.{Outcome.accepts}
 
 -- a place of n lies in a list of n places
 pub place_fits : (n i long : ℕ) → place_words * n ≤ long → i < n → place_words * i + place_words ≤ long
@@ -63,7 +66,7 @@ module _ (t rows ps : List ℕ) (K R : ℕ) (k : K ≡ slots t) (r : R ≡ (hist
 
 module _ (t rows ps : List ℕ) (lines counts : ℕ) where
   -- a table that is refused
-  pub table_refused : (a : Answer) (why : Refusal) → a ≡ checked t → a ≡ Refused why → Bad why ≡ over_verdict t rows ps lines counts
+  pub table_refused : (a : Result Accepted Refusal) (why : Refusal) → a ≡ checked t → a ≡ Err why → Err why ≡ over_verdict t rows ps lines counts
   unfolding over_verdict over_by
   table_refused a why found e = rw (sym found ∙ e)
 
@@ -72,10 +75,10 @@ module _ (t rows ps : List ℕ) (lines counts : ℕ) where
     by_slots = says ∙ ap (λ (n : ℕ). judged (over_lines n rows ps lines counts)) k
 
     -- one that is accepted
-    pub lines_judged : (a : Answer) (n r : ℕ) → a ≡ checked t → a ≡ Accepted n r → v ≡ over_verdict t rows ps lines counts
+    pub lines_judged : (a : Result Accepted Refusal) (n r : ℕ) → a ≡ checked t → a ≡ accepts n r → v ≡ over_verdict t rows ps lines counts
     unfolding over_verdict over_by
     lines_judged a n r found e = rw (sym found ∙ e) by_slots
 
     -- where the verdict is fine
-    pub seen : v ≡ Fine → OverFine (slots t) rows ps lines counts
+    pub seen : v ≡ Ok tt → OverFine (slots t) rows ps lines counts
     seen e = over_fine (slots t) rows ps lines counts (sym by_slots ∙ e)

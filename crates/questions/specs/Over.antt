@@ -1,13 +1,17 @@
 -- Why a tree says what it says at each of the newest rows, refusals and all. Definitions only.
-use Rattle.std.specs.Prelude.{ℕ, zero, suc, ◌+◌, ◌-◌, ◌*◌, ◌/◌, ◌%◌, List, [], ◌∷◌, length, take, leb, eqb}
+use Rattle.std.specs.Prelude.{ℕ, zero, suc, ◌+◌, ◌-◌, ◌*◌, ◌/◌, ◌%◌, List, [], ◌∷◌, length, take, leb, eqb, Err, Ok, Result}
 use Rattle.words.specs.{Words.overwrite}
 use Rattle.rows.specs.{History.width, History.history_of, History.whole_rows}
-use Rattle.table.specs.{declared.answer.Answer.Answer, declared.answer.Answer.TheVariants.Accepted, declared.answer.Answer.TheVariants.Refused, Header.slots}
+use Rattle.table.specs.{Header.slots}
 use Rattle.table.specs.{Checked.checked}
 use Rattle.chain.specs.{Chain.ChainLine, Lines.line_length, Lines.chain_words, Explained.explanation, Explained.most_lines}
-use Rattle.refusals.specs.{declared.verdict.Verdict.Verdict, declared.verdict.Verdict.TheVariants.Fine, declared.verdict.Verdict.TheVariants.Bad, Lines.Line}
+use Rattle.refusals.specs.{Lines.Line}
 use Rattle.refusals.specs.{Lines.line, Lines.judged}
 use Rattle.questions.specs.{Position.position_words, Position.position_at, Position.all_right}
+use Rattle.refusals.specs.{Lines.Verdict}
+use Rattle.words.specs.{declared.refusal.Refusal.Refusal}
+use Rattle.table.specs.{declared.answer.Accepted.Accepted}
+use Rattle.words.specs.declared.refusal.Refusal.TheVariants as Refusal
 
 -- as many rows are asked as there are positions
 unfoldable pub asked_rows : List ℕ → ℕ
@@ -39,23 +43,23 @@ counts_over each (suc n) counts = overwrite (counts_over each n counts) n (lengt
 -- question, and where there are more positions than rows.
 unfoldable pub over_lines : ℕ → List ℕ → List ℕ → ℕ → ℕ → List Line
 over_lines K rows ps lines counts =
-    line (leb (asked_rows ps) (lines / place_words)) 10 10
-    ∷ line (leb (asked_rows ps) counts) 10 19
-    ∷ line (whole_rows K rows) 13 0
-    ∷ line (eqb (length ps % position_words) 0) 13 0
-    ∷ line (leb (asked_rows ps) (history_of K rows).rows) 13 0
-    ∷ line (all_right ps (asked_rows ps)) 13 0
+    line (leb (asked_rows ps) (lines / place_words)) (Refusal.Room 10)
+    ∷ line (leb (asked_rows ps) counts) (Refusal.Room 19)
+    ∷ line (whole_rows K rows) Refusal.Records
+    ∷ line (eqb (length ps % position_words) 0) Refusal.Records
+    ∷ line (leb (asked_rows ps) (history_of K rows).rows) Refusal.Records
+    ∷ line (all_right ps (asked_rows ps)) Refusal.Records
     ∷ []
 
 -- "1 to 9 come first"
-unfoldable pub over_by : Answer → List ℕ → List ℕ → List ℕ → ℕ → ℕ → Verdict
-over_by (Refused why) t rows ps lines counts = Bad why
-over_by (Accepted nodes needed) t rows ps lines counts = judged (over_lines (slots t) rows ps lines counts)
+unfoldable pub over_by : Result Accepted Refusal → List ℕ → List ℕ → List ℕ → ℕ → ℕ → Verdict
+over_by (Err why) t rows ps lines counts = Err why
+over_by (Ok accepted) t rows ps lines counts = judged (over_lines (slots t) rows ps lines counts)
 
 unfoldable pub over_verdict : List ℕ → List ℕ → List ℕ → ℕ → ℕ → Verdict
 over_verdict t rows ps lines counts = over_by (checked t) t rows ps lines counts
 
 -- "A refusal .. changes nothing lent."
 unfoldable pub unless_refused : Verdict → List ℕ → List ℕ → List ℕ
-unless_refused (Bad why) after before = before
-unless_refused Fine after before = after
+unless_refused (Err why) after before = before
+unless_refused (Ok tt) after before = after

@@ -3,11 +3,11 @@ ghost use Rattle.std.specs.Prelude.{◌≡◌, length};
 ghost use Rattle.refusals.specs.Lines.{judged};
 ghost use Rattle.questions.specs.Over.{asked_rows, over_lines, over_verdict, lines_over, counts_over, explanation_over, unless_refused};
 
+use words::refusal::Refusal;
 use crate::each::{PLACE_WORDS, explain_rows};
 use crate::position::{POSITION_WORDS, all_right};
 use chain::lines::LINES_ROOM;
 use refusals::verdict::{Verdict, line};
-use table::answer::Answer;
 
 // The number of the list of counts, as a room.
 const COUNTS_ROOM: u64 = 19;
@@ -18,12 +18,12 @@ fn judge_over(slots: usize, rows: &[u64], positions: &[u64], lines: usize, count
     ensures { result ≡ judged (over_lines slots rows.now positions.now lines counts) }
 {
     let n = positions.len() / POSITION_WORDS;
-    let below = line(all_right(positions, n), 13, 0, Verdict::Fine);
-    let below = line(n <= rows::row_count(rows, slots), 13, 0, below);
-    let below = line(positions.len() % POSITION_WORDS == 0, 13, 0, below);
-    let below = line(rows::are_whole(rows, slots), 13, 0, below);
-    let below = line(n <= counts, 10, COUNTS_ROOM, below);
-    line(n <= lines / PLACE_WORDS, 10, LINES_ROOM, below)
+    let below = line(all_right(positions, n), Refusal::Records, Ok(()));
+    let below = line(n <= rows::row_count(rows, slots), Refusal::Records, below);
+    let below = line(positions.len() % POSITION_WORDS == 0, Refusal::Records, below);
+    let below = line(rows::are_whole(rows, slots), Refusal::Records, below);
+    let below = line(n <= counts, Refusal::Room(COUNTS_ROOM), below);
+    line(n <= lines / PLACE_WORDS, Refusal::Room(LINES_ROOM), below)
 }
 
 // Why a tree, by its number, says what it says at each of the newest rows, as many as there are positions, oldest first: the lines of each into its
@@ -46,16 +46,16 @@ pub fn explain_over(
     let checked = table::check(t);
     let answer = checked.answer;
     match answer {
-        Answer::Refused(refusal) => Verdict::Bad(refusal),
-        Answer::Accepted { nodes: _, rows: _ } => {
+        Err(refusal) => Err(refusal),
+        Ok(_) => {
             let slots = table::header::slots(t) as usize;
             let verdict = judge_over(slots, rows, positions, lines.len(), counts.len());
             match verdict {
-                Verdict::Bad(refusal) => Verdict::Bad(refusal),
-                Verdict::Fine => {
+                Err(refusal) => Err(refusal),
+                Ok(()) => {
                     let ends = checked.ends;
                     explain_rows(t, &ends, tree, rows, positions, lines, counts);
-                    Verdict::Fine
+                    Ok(())
                 }
             }
         }

@@ -1,9 +1,9 @@
 -- The leaves that a test looks at, in the request's order, and what is said of them. Definitions only.
-use Rattle.std.specs.Prelude.{ℕ, zero, suc, ◌+◌, ◌-◌, ◌≡◌, List, [], ◌∷◌, ◌++◌, Float}
+use Rattle.std.specs.Prelude.{ℕ, zero, suc, ◌+◌, ◌-◌, ◌≡◌, List, [], ◌∷◌, ◌++◌, Float, None, Option, Some}
 use Rattle.rows.specs.{History.History}
 use Rattle.table.specs.{Trees.Operand, Trees.const, Trees.ref, Trees.price, Trees.prev, Trees.arith, Trees.extreme, Trees.Condition, Trees.compare, Trees.cross}
 use Rattle.table.specs.{Trees.between, Trees.trend, Trees.every, Trees.any, Trees.negated, Trees.in_position, Trees.bars_since, Series.as_operand, Writing.nodes_in}
-use Rattle.rules.specs.{declared.values.Value.Value, declared.values.Value.TheVariants.Missing, declared.values.Value.TheVariants.Number, Meaning.bars_back}
+use Rattle.rules.specs.{Meaning.bars_back}
 use Rattle.rules.specs.{Meaning.value}
 
 -- a leaf, its node, and how many bars back it is looked at
@@ -44,15 +44,15 @@ looks_of (in_position wanted) i = []
 looks_of (bars_since selector k) i = []
 
 -- what a leaf is so many bars before `bar`: missing where there is no such bar
-unfoldable pub seen : History → ℕ → Look → Value
+unfoldable pub seen : History → ℕ → Look → Option Float
 seen h bar l = bars_back (value h l.leaf) l.back bar
 
 -- it has a value there
-pub data IsThere : Value → Type 0 where
-  number : (x : Float) → IsThere (Number x)
+pub data IsThere : Option Float → Type 0 where
+  number : (x : Float) → IsThere (Some x)
 
 module _ (h : History) (bar : ℕ) where
   -- The first missing leaf of these is this node, so many bars back: it is missing there, and each before it is not.
   pub data FirstMissing : List Look → ℕ → ℕ → Type 0 where
-    this : (l : Look) (ls : List Look) → seen h bar l ≡ Missing → FirstMissing (l ∷ ls) l.node l.back
+    this : (l : Look) (ls : List Look) → seen h bar l ≡ None → FirstMissing (l ∷ ls) l.node l.back
     later : (l : Look) (ls : List Look) (node back : ℕ) → IsThere (seen h bar l) → FirstMissing ls node back → FirstMissing (l ∷ ls) node back

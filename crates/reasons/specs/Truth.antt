@@ -1,19 +1,18 @@
 -- Each line is true of the rule's meaning, and shows all that is: what a line shows is true of its condition (Telling), and nothing else is. At any
 -- bar up to the newest.
-use Rattle.std.specs.Prelude.{ℕ, zero, suc, ◌+◌, ◌-◌, ◌≤◌, ◌<◌, ◌≡◌, refl, Bool, true, false, cond, ◌&&◌, List, [], ◌∷◌, ◌++◌, ◌⊎◌, ltb, eqb, Float}
+use Rattle.std.specs.Prelude.{ℕ, zero, suc, ◌+◌, ◌-◌, ◌≤◌, ◌<◌, ◌≡◌, refl, Bool, true, false, cond, ◌&&◌, List, [], ◌∷◌, ◌++◌, ◌⊎◌, ltb, eqb, Float, None, Option, Some}
 use Rattle.words.specs.Prelude.{sym, ap, inl}
 use Rattle.words.specs.Prelude.{inr, arith, eqb-true, eqb-false, ne_eqb, ltb-true, ltb-false, lt-ltb, le-ltb}
 use Rattle.rows.specs.{History.History}
 use Rattle.table.specs.{Trees.Operand, Trees.const, Trees.ref, Trees.price, Trees.prev, Trees.arith as sums, Trees.extreme, Trees.Condition, Trees.compare}
 use Rattle.table.specs.{Trees.cross, Trees.between, Trees.trend, Trees.every, Trees.any, Trees.negated, Trees.in_position, Trees.bars_since, Series.as_operand}
 use Rattle.table.specs.{Writing.nodes_in}
-use Rattle.rules.specs.{declared.values.Value.Value, declared.values.Value.TheVariants.Missing, declared.values.Value.TheVariants.Number}
-use Rattle.rules.specs.{declared.position.PositionState.PositionState, declared.position.Entered.Entered, declared.position.Entered.TheVariants.Never}
-use Rattle.rules.specs.{declared.position.Entered.TheVariants.Bar, Values.held, Values.compared, Values.crossed, Values.within, Values.trended}
+use Rattle.rules.specs.{declared.position.PositionState.PositionState}
+use Rattle.rules.specs.{Values.held, Values.compared, Values.crossed, Values.within, Values.trended}
 use Rattle.rules.specs.{Values.counted_since, Meaning.newest, Meaning.value, Meaning.holds, Laws.Missing.either_way}
 use Rattle.rules.specs.{Laws.Missing.compared_late, Laws.Missing.trended_late, Laws.Missing.within_low, Laws.Missing.within_high, Laws.Missing.within_value}
 use Rattle.rules.specs.{Laws.Missing.crossed_first, Laws.Missing.crossed_second}
-use Rattle.chain.specs.{declared.missing.Found.Found, declared.missing.Found.TheVariants.Nowhere, declared.missing.Found.TheVariants.Leaf, Missing.in_table}
+use Rattle.chain.specs.{Missing.in_table}
 use Rattle.chain.specs.{Missing.first_found, Missing.gone_if, Missing.leaf_gone, Missing.newest_gone, Missing.missing_in, Missing.missing_in_two}
 use Rattle.chain.specs.{Missing.missing_in_three, Chain.Shown, Chain.missing, Chain.at_first_bar, Chain.too_few_bars, Chain.position, Chain.since_entry}
 use Rattle.chain.specs.{Chain.no_entry, Chain.shown_by, Chain.shown_from, Chain.shown_since, Chain.shown, Chain.ChainLine, Chain.line_at}
@@ -35,17 +34,17 @@ and_no : (a : Bool) → (a && false) ≡ false
 and_no true = refl
 and_no false = refl
 
-crossed_now : (kind : ℕ) (b x y : Value) → crossed kind Missing b x y ≡ false
+crossed_now : (kind : ℕ) (b x y : Option Float) → crossed kind None b x y ≡ false
 unfolding crossed compared
 crossed_now kind b x y = rw (and_no (compared Named.le x y), and_no (compared Named.ge x y)) (either_way (eqb kind Named.cross_above) false)
 
-crossed_now_late : (kind : ℕ) (a x y : Value) → crossed kind a Missing x y ≡ false
+crossed_now_late : (kind : ℕ) (a x y : Option Float) → crossed kind a None x y ≡ false
 unfolding crossed
 crossed_now_late kind a x y =
     rw (compared_late Named.gt a, compared_late Named.lt a, and_no (compared Named.le x y), and_no (compared Named.ge x y))
     (either_way (eqb kind Named.cross_above) false)
 
-trended_now : (kind : ℕ) (w : Value) → trended kind Missing w ≡ false
+trended_now : (kind : ℕ) (w : Option Float) → trended kind None w ≡ false
 unfolding trended compared
 trended_now kind w = either_way (eqb kind Named.rising) false
 
@@ -53,19 +52,19 @@ trended_now kind w = either_way (eqb kind Named.rising) false
 
 module _ (h : History) (bar : ℕ) where
   -- the first missing of a list of leaves
-  unfoldable first_gone : List Look → Found
-  first_gone [] = Nowhere
+  unfoldable first_gone : List Look → Option (ℕ × ℕ)
+  first_gone [] = None
   first_gone (l ∷ ls) = first_found (gone_if l.node l.back (seen h bar l)) (first_gone ls)
 
-  first_found_assoc : (f g k : Found) → first_found (first_found f g) k ≡ first_found f (first_found g k)
+  first_found_assoc : (f g k : Option (ℕ × ℕ)) → first_found (first_found f g) k ≡ first_found f (first_found g k)
   unfolding first_found
-  first_found_assoc (Leaf node back) g k = refl
-  first_found_assoc Nowhere g k = refl
+  first_found_assoc (Some (node, back)) g k = refl
+  first_found_assoc None g k = refl
 
-  or_nowhere : (f : Found) → first_found f Nowhere ≡ f
+  or_nowhere : (f : Option (ℕ × ℕ)) → first_found f None ≡ f
   unfolding first_found
-  or_nowhere (Leaf node back) = refl
-  or_nowhere Nowhere = refl
+  or_nowhere (Some (node, back)) = refl
+  or_nowhere None = refl
 
   first_two : (xs ys : List Look) → first_gone (xs ++ ys) ≡ first_found (first_gone xs) (first_gone ys)
   unfolding first_gone first_found
@@ -99,29 +98,29 @@ module _ (h : History) (bar : ℕ) where
       rw (in_order a i back, in_order b (i + nodes_in a) back) (sym (first_two (looks_in a i back) (looks_in b (i + nodes_in a) back)))
 
   -- what is found is the first missing, and where nothing is found none is missing
-  first_true : (ls : List Look) (node back : ℕ) → first_gone ls ≡ Leaf node back → FirstMissing h bar ls node back
+  first_true : (ls : List Look) (node back : ℕ) → first_gone ls ≡ Some (node, back) → FirstMissing h bar ls node back
   unfolding first_gone
   first_true [] node back e = absurd (let z : ◌≡◌ {A = ℕ} 0 1 = cc in omega arith)
   first_true (l ∷ ls) node back e = go (λ f. first_true ls node back f) (seen h bar l) refl e
     where
-      go : (first_gone ls ≡ Leaf node back → FirstMissing h bar ls node back) → (v : Value) → seen h bar l ≡ v
-          → first_found (gone_if l.node l.back v) (first_gone ls) ≡ Leaf node back → FirstMissing h bar (l ∷ ls) node back
-      go rest Missing s f = unfold first_found gone_if in
+      go : (first_gone ls ≡ Some (node, back) → FirstMissing h bar ls node back) → (v : Option Float) → seen h bar l ≡ v
+          → first_found (gone_if l.node l.back v) (first_gone ls) ≡ Some (node, back) → FirstMissing h bar (l ∷ ls) node back
+      go rest None s f = unfold first_found gone_if in
           let same-node : l.node ≡ node = cc in
           let same_back : l.back ≡ back = cc in
           rw (← same-node, ← same_back) (this l ls s)
-      go rest (Number x) s f = later l ls node back (rw s (number x)) (rest (unfold first_found gone_if in f))
+      go rest (Some x) s f = later l ls node back (rw s (number x)) (rest (unfold first_found gone_if in f))
 
   -- and there is no other first
-  first_only : {ls : List Look} {node back : ℕ} → FirstMissing h bar ls node back → first_gone ls ≡ Leaf node back
+  first_only : {ls : List Look} {node back : ℕ} → FirstMissing h bar ls node back → first_gone ls ≡ Some (node, back)
   unfolding first_gone first_found gone_if
   first_only (this l ls s) = rw s
   first_only (later l ls node back t f) = go t (first_only f)
     where
-      go : IsThere (seen h bar l) → first_gone ls ≡ Leaf node back → first_found (gone_if l.node l.back (seen h bar l)) (first_gone ls) ≡ Leaf node back
+      go : IsThere (seen h bar l) → first_gone ls ≡ Some (node, back) → first_found (gone_if l.node l.back (seen h bar l)) (first_gone ls) ≡ Some (node, back)
       go t e = by (seen h bar l) t e
         where
-          by : (v : Value) → IsThere v → first_gone ls ≡ Leaf node back → first_found (gone_if l.node l.back v) (first_gone ls) ≡ Leaf node back
+          by : (v : Option Float) → IsThere v → first_gone ls ≡ Some (node, back) → first_found (gone_if l.node l.back v) (first_gone ls) ≡ Some (node, back)
           by _ (number x) e = e
 
   -- ---- what a test shows: its values or the first missing leaf
@@ -156,17 +155,17 @@ module _ (h : History) (bar : ℕ) where
     reads_then : (a : Operand) (i n : ℕ) → n ≤ bar → Reads (missing_in in_table h a i bar n) (value h a (bar - n))
     reads_then a i n l = reads h bar now a i n l
 
-    there_found : {f : Found} {v : Value} → Reads f v → (x : Float) → v ≡ Number x → f ≡ Nowhere
+    there_found : {f : Option (ℕ × ℕ)} {v : Option Float} → Reads f v → (x : Float) → v ≡ Some x → f ≡ None
     there_found (gone node back) x e = absurd (let z : ◌≡◌ {A = ℕ} 0 1 = cc in omega arith)
     there_found (got y) x e = refl
 
     module _ (s : PositionState) where
       -- a test that looks and finds a leaf missing
-      missing_true : (c : Condition) (i node back : ℕ) → LooksAt h s bar c → Leaf node back ≡ first_gone (looks_of c i) → holds h s c bar ≡ false
+      missing_true : (c : Condition) (i node back : ℕ) → LooksAt h s bar c → Some (node, back) ≡ first_gone (looks_of c i) → holds h s c bar ≡ false
           → True h s bar c i (missing node back)
       missing_true c i node back looks l e = lacks c i node back looks (first_true (looks_of c i) node back (sym l)) e
 
-      compare_true : (kind : ℕ) (a b : Operand) (i : ℕ) {f g : Found} {v w : Value} → Reads f v → Reads g w → value h a bar ≡ v → value h b bar ≡ w
+      compare_true : (kind : ℕ) (a b : Operand) (i : ℕ) {f g : Option (ℕ × ℕ)} {v w : Option Float} → Reads f v → Reads g w → value h a bar ≡ v → value h b bar ≡ w
           → first_found f g ≡ first_gone (looks_of (compare kind a b) i)
           → True h s bar (compare kind a b) i (shown_by (first_found f g) (v ∷ w ∷ []))
       unfolding first_found shown_by LooksAt holds
@@ -176,7 +175,7 @@ module _ (h : History) (bar : ℕ) where
           missing_true (compare kind a b) i node back tt l (rw (e, f) (unfold compared in refl))
       compare_true kind a b i (got x) (got y) e f l = compares kind a b i x y e f (rw (e, f) (unfold compared in refl))
 
-      between-true : (a low high : Operand) (i : ℕ) {f g k : Found} {v w u : Value} → Reads f v → Reads g w → Reads k u
+      between-true : (a low high : Operand) (i : ℕ) {f g k : Option (ℕ × ℕ)} {v w u : Option Float} → Reads f v → Reads g w → Reads k u
           → value h a bar ≡ v → value h low bar ≡ w → value h high bar ≡ u
           → first_found (first_found f g) k ≡ first_gone (looks_of (between a low high) i)
           → True h s bar (between a low high) i (shown_by (first_found (first_found f g) k) (v ∷ w ∷ u ∷ []))
@@ -184,12 +183,12 @@ module _ (h : History) (bar : ℕ) where
       between-true a low high i {w = w} {u = u} (gone node back) q r e f g l =
           missing_true (between a low high) i node back tt l (rw (e, f, g) (within_value w u))
       between-true a low high i {u = u} (got x) (gone node back) r e f g l =
-          missing_true (between a low high) i node back tt l (rw (e, f, g) (within_low (Number x) u))
+          missing_true (between a low high) i node back tt l (rw (e, f, g) (within_low (Some x) u))
       between-true a low high i (got x) (got y) (gone node back) e f g l =
-          missing_true (between a low high) i node back tt l (rw (e, f, g) (within_high (Number x) (Number y)))
+          missing_true (between a low high) i node back tt l (rw (e, f, g) (within_high (Some x) (Some y)))
       between-true a low high i (got x) (got y) (got z) e f g l = lies a low high i x y z e f g (rw (e, f, g) (unfold within compared in refl))
 
-      cross_true : (kind : ℕ) (a b : Operand) (i : ℕ) → 0 < bar → {f g m n : Found} {v w x y : Value}
+      cross_true : (kind : ℕ) (a b : Operand) (i : ℕ) → 0 < bar → {f g m n : Option (ℕ × ℕ)} {v w x y : Option Float}
           → Reads f v → Reads g w → Reads m x → Reads n y
           → value h a bar ≡ v → value h b bar ≡ w → value h a (bar - 1) ≡ x → value h b (bar - 1) ≡ y
           → first_found (first_found f g) (first_found m n) ≡ first_gone (looks_of (cross kind a b) i)
@@ -198,23 +197,23 @@ module _ (h : History) (bar : ℕ) where
       cross_true kind a b i late {w = w} {x = x} {y = y} (gone node back) q r t e f g k l =
           missing_true (cross kind a b) i node back late l (rw (ne_eqb bar 0 (omega arith), e, f, g, k) (crossed_now kind w x y))
       cross_true kind a b i late {x = x} {y = y} (got v) (gone node back) r t e f g k l =
-          missing_true (cross kind a b) i node back late l (rw (ne_eqb bar 0 (omega arith), e, f, g, k) (crossed_now_late kind (Number v) x y))
+          missing_true (cross kind a b) i node back late l (rw (ne_eqb bar 0 (omega arith), e, f, g, k) (crossed_now_late kind (Some v) x y))
       cross_true kind a b i late {y = y} (got v) (got w) (gone node back) t e f g k l =
-          missing_true (cross kind a b) i node back late l (rw (ne_eqb bar 0 (omega arith), e, f, g, k) (crossed_first kind (Number v) (Number w) y))
+          missing_true (cross kind a b) i node back late l (rw (ne_eqb bar 0 (omega arith), e, f, g, k) (crossed_first kind (Some v) (Some w) y))
       cross_true kind a b i late (got v) (got w) (got x) (gone node back) e f g k l =
           missing_true (cross kind a b) i node back late l
-          (rw (ne_eqb bar 0 (omega arith), e, f, g, k) (crossed_second kind (Number v) (Number w) (Number x)))
+          (rw (ne_eqb bar 0 (omega arith), e, f, g, k) (crossed_second kind (Some v) (Some w) (Some x)))
       cross_true kind a b i late (got v) (got w) (got x) (got y) e f g k l =
           crosses kind a b i v w x y late e f g k (rw (ne_eqb bar 0 (omega arith), e, f, g, k) (unfold crossed compared in refl))
 
-      trend-true : (kind : ℕ) (a : Operand) (n i : ℕ) → n ≤ bar → {f g : Found} {v w : Value} → Reads f v → Reads g w
+      trend-true : (kind : ℕ) (a : Operand) (n i : ℕ) → n ≤ bar → {f g : Option (ℕ × ℕ)} {v w : Option Float} → Reads f v → Reads g w
           → value h a bar ≡ v → value h a (bar - n) ≡ w → first_found f g ≡ first_gone (looks_of (trend kind a n) i)
           → True h s bar (trend kind a n) i (shown_by (first_found f g) (v ∷ w ∷ []))
       unfolding first_found shown_by LooksAt holds
       trend-true kind a n i late {w = w} (gone node back) q e f l =
           missing_true (trend kind a n) i node back late l (rw (le-ltb bar n late, e, f) (trended_now kind w))
       trend-true kind a n i late (got x) (gone node back) e f l =
-          missing_true (trend kind a n) i node back late l (rw (le-ltb bar n late, e, f) (trended_late kind (Number x)))
+          missing_true (trend kind a n) i node back late l (rw (le-ltb bar n late, e, f) (trended_late kind (Some x)))
       trend-true kind a n i late (got x) (got y) e f l =
           moves kind a n i x y late e f (rw (le-ltb bar n late, e, f) (unfold trended compared in refl))
 
@@ -248,10 +247,10 @@ module _ (h : History) (bar : ℕ) where
           let none : seen - 1 - entry ≡ 0 = omega (arith, ltb-false entry seen e) in
           rw none (not-below (ltb-false entry seen e))
 
-      since-true : (selector k i : ℕ) (there : Bool) → held s.qty ≡ there → (e : Entered) → s.entered ≡ e
+      since-true : (selector k i : ℕ) (there : Bool) → held s.qty ≡ there → (e : Option ℕ) → s.entered ≡ e
           → True h s bar (bars_since selector k) i (cond there (shown_from s.bars_seen e) no_entry)
-      since-true selector k i true p Never q = no_entry_lem selector k i (inr q) (unfold holds counted_since in rw (p, q))
-      since-true selector k i true p (Bar entry) q =
+      since-true selector k i true p None q = no_entry_lem selector k i (inr q) (unfold holds counted_since in rw (p, q))
+      since-true selector k i true p (Some entry) q =
           since selector k i entry (s.bars_seen - 1 - entry) p q (bars_since_lem s.bars_seen entry (ltb entry s.bars_seen) refl)
           (unfold holds counted_since in rw (p, q))
       since-true selector k i false p e q = no_entry_lem selector k i (inl p) (unfold holds counted_since in rw p)
@@ -275,7 +274,7 @@ module _ (h : History) (bar : ℕ) where
       -- ---- and nothing else is true of it
 
       -- the first missing leaf of a test that looks
-      leaf_shown : (c : Condition) (i node back : ℕ) → LooksAt h s bar c → first_gone (looks_of c i) ≡ Leaf node back
+      leaf_shown : (c : Condition) (i node back : ℕ) → LooksAt h s bar c → first_gone (looks_of c i) ≡ Some (node, back)
           → missing node back ≡ shown in_table h s c i bar
       unfolding shown LooksAt shown_by
       leaf_shown (compare kind a b) i node back looks e = rw (two_leaves kind a b i, e)
@@ -292,11 +291,11 @@ module _ (h : History) (bar : ℕ) where
       since_only seen entry _ (passed bars e) = omega arith
       since_only seen entry _ (not-below e) = omega arith
 
-      none_shown : (there : Bool) → held s.qty ≡ there → (e : Entered) → s.entered ≡ e → held s.qty ≡ false ⊎ s.entered ≡ Never
+      none_shown : (there : Bool) → held s.qty ≡ there → (e : Option ℕ) → s.entered ≡ e → held s.qty ≡ false ⊎ s.entered ≡ None
           → no_entry ≡ cond there (shown_from s.bars_seen e) no_entry
-      none_shown true p Never q o = refl
-      none_shown true p (Bar entry) q (inl f) = absurd (let z : ◌≡◌ {A = ℕ} 0 1 = cc in omega arith)
-      none_shown true p (Bar entry) q (inr f) = absurd (let z : ◌≡◌ {A = ℕ} 0 1 = cc in omega arith)
+      none_shown true p None q o = refl
+      none_shown true p (Some entry) q (inl f) = absurd (let z : ◌≡◌ {A = ℕ} 0 1 = cc in omega arith)
+      none_shown true p (Some entry) q (inr f) = absurd (let z : ◌≡◌ {A = ℕ} 0 1 = cc in omega arith)
       none_shown false p e q o = refl
 
       -- NOTHING ELSE: what is true of a condition is what its line shows.

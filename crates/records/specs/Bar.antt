@@ -1,9 +1,10 @@
 -- A bar as the caller hands it. Definitions only.
-use Rattle.std.specs.Prelude.{ℕ, ◌+◌, cond, List, get_or, eqb}
+use Rattle.std.specs.Prelude.{ℕ, ◌+◌, cond, List, get_or, eqb, None, Option}
 use Rattle.floats.specs.{Floats.float_of}
 use Rattle.portfolio.specs.{declared.Candle.Candle}
-use Rattle.execution.specs.{declared.costs.Funding.Funding, declared.costs.Funding.TheVariants.NotSupplied, declared.costs.Funding.TheVariants.Supplied}
+use Rattle.execution.specs.{declared.costs.Funding.Funding}
 use Rattle.records.specs.{Fields.float_at}
+use Rattle.execution.specs.{Supplied.supplied}
 
 -- its first six words
 unfoldable pub candle_of : List ℕ → Candle
@@ -17,7 +18,7 @@ candle_of bar = record {
 }
 
 -- its last three words; those of mark and rate are not looked at where none is supplied
-unfoldable pub funding_of : ℕ → List ℕ → Funding
+unfoldable pub funding_of : ℕ → List ℕ → Option Funding
 funding_of K bar =
-    cond (eqb (get_or bar (7 + K) 0) 0) NotSupplied
-    (Supplied (float_of (get_or bar (8 + K) 0)) (float_of (get_or bar (9 + K) 0)))
+    cond (eqb (get_or bar (7 + K) 0) 0) None
+    (supplied (float_of (get_or bar (8 + K) 0)) (float_of (get_or bar (9 + K) 0)))

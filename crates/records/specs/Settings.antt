@@ -1,7 +1,6 @@
 -- The settings' words: word i is setting i, and word 31 says which optional ones are given. Definitions only.
-use Rattle.std.specs.Prelude.{ℕ, ◌/◌, ◌%◌, ◌^◌, Bool, not, cond, List, eqb}
+use Rattle.std.specs.Prelude.{ℕ, ◌/◌, ◌%◌, ◌^◌, Bool, not, cond, List, eqb, Float, None, Option, Some}
 use Rattle.floats.specs.{Floats.float_of}
-use Rattle.execution.specs.{declared.optional.Optional.Optional, declared.optional.Optional.TheVariants.Absent, declared.optional.Optional.TheVariants.Of}
 use Rattle.execution.specs.{declared.terms.Risk.Risk, declared.terms.Sizing.Sizing, declared.terms.Sizing.TheVariants.FixedFraction}
 use Rattle.execution.specs.{declared.terms.Sizing.TheVariants.FixedQty, declared.terms.Sizing.TheVariants.FixedCash}
 use Rattle.execution.specs.{declared.terms.Sizing.TheVariants.VolTarget, declared.terms.Sizing.TheVariants.RiskPerTrade}
@@ -19,8 +18,8 @@ unfoldable pub flag_of : ℕ → Bool
 flag_of w = not (eqb w 0)
 
 -- an optional level, by the lowest of its bits: given where it is set
-unfoldable pub level_of : ℕ → ℕ → Optional
-level_of bits w = cond (eqb (bits % 2) 1) (Of (float_of w)) Absent
+unfoldable pub level_of : ℕ → ℕ → Option Float
+level_of bits w = cond (eqb (bits % 2) 1) (Some (float_of w)) None
 
 -- 5 sizing kind: 0 fraction, 1 quantity, 2 cash, 3 volatility target, 4 risk; 6 its value; 7 lookback (volatility target only)
 unfoldable pub sizing_of : ℕ → ℕ → ℕ → Sizing

@@ -1,7 +1,6 @@
 -- The state's words: what they mean, and those of a state. Definitions only.
-use Rattle.std.specs.Prelude.{ℕ, cond, List, [], ◌∷◌, eqb, Float}
+use Rattle.std.specs.Prelude.{ℕ, cond, List, [], ◌∷◌, eqb, Float, None, Option, Some}
 use Rattle.floats.specs.{Floats.word_of}
-use Rattle.rules.specs.{declared.position.Entered.Entered, declared.position.Entered.TheVariants.Never, declared.position.Entered.TheVariants.Bar}
 use Rattle.portfolio.specs.{declared.Portfolio.Portfolio}
 use Rattle.execution.specs.{declared.level.OrderKind.OrderKind, declared.level.OrderKind.TheVariants.Market, declared.level.OrderKind.TheVariants.Limit}
 use Rattle.execution.specs.{declared.level.OrderKind.TheVariants.Stop, declared.level.OrderKind.TheVariants.StopLimit}
@@ -31,8 +30,8 @@ entry_kind_of kind level limit =
     Market))
 
 -- 6 the entry bar: 0 none, any other word one; 7 its number
-unfoldable pub entered_of : ℕ → ℕ → Entered
-entered_of there bar = cond (eqb there 0) Never (Bar bar)
+unfoldable pub entered_of : ℕ → ℕ → Option ℕ
+entered_of there bar = cond (eqb there 0) None (Some bar)
 
 -- 8 cash, 9 quantity, 10 entry price, 11 entry time, 12 entry fee, 13 fees paid; 20 funding paid by the open trade, 21 its least favourable
 -- price (request 6)
@@ -100,13 +99,13 @@ limit_word (Limit level) = 0
 limit_word (Stop level) = 0
 limit_word (StopLimit stop limit) = word_of limit
 
-unfoldable pub entered_kind : Entered → ℕ
-entered_kind Never = 0
-entered_kind (Bar bar) = 1
+unfoldable pub entered_kind : Option ℕ → ℕ
+entered_kind None = 0
+entered_kind (Some bar) = 1
 
-unfoldable pub entry_bar : Entered → ℕ
-entry_bar Never = 0
-entry_bar (Bar bar) = bar
+unfoldable pub entry_bar : Option ℕ → ℕ
+entry_bar None = 0
+entry_bar (Some bar) = bar
 
 unfoldable pub words_of : State → List ℕ
 words_of s =

@@ -37,9 +37,9 @@ pub fn funding_of(bar: &[u64], slots: usize) -> Funding
     ensures { result ≡ funding_of slots bar.now }
 {
     if words::word_from(bar, words::places::BAR_FUNDED, slots) == 0 {
-        return Funding::NotSupplied;
+        return None;
     }
     let mark = floats::float_of(words::word_from(bar, words::places::BAR_MARK, slots));
     let rate = floats::float_of(words::word_from(bar, words::places::BAR_RATE, slots));
-    Funding::Supplied(mark, rate)
+    Some(Funding { mark, rate })
 }

@@ -5,7 +5,6 @@ ghost use Rattle.records.specs.Settings.{flag_of, level_of, sizing_of, slippage_
 
 use crate::fields::{float_in, padded, word_in};
 use execution::level::{Entries, OrderType};
-use execution::optional::Optional;
 use execution::terms::{Risk, Sizing, Slippage, Terms};
 use words::limits::SETTING_WORDS;
 use words::places;
@@ -50,13 +49,13 @@ fn flag_of(w: u64) -> bool
 }
 
 // A level, given where the lowest bit is set.
-fn level_of(bits: u64, w: u64) -> Optional
+fn level_of(bits: u64, w: u64) -> Option<f64>
     ensures { result ≡ level_of bits w }
 {
     if bits % 2 == 1 {
-        return Optional::Of(floats::float_of(w));
+        return Some(floats::float_of(w));
     }
-    Optional::Absent
+    None
 }
 
 // Settings 5 to 7.

@@ -5,7 +5,6 @@ ghost use Rattle.records.specs.State.{fresh_state};
 use crate::settings::Settings;
 use execution::level::OrderKind;
 use portfolio::Portfolio;
-use rules::position::Entered;
 
 // How many of each thing there are.
 #[derive(Clone, Copy)]
@@ -29,7 +28,7 @@ pub enum Order {
 #[derive(Clone, Copy)]
 pub struct Position {
     pub portfolio: Portfolio,
-    pub entered: Entered,
+    pub entered: Option<u64>,
     // the most favourable price since the entry
     pub extreme: f64,
 }
@@ -63,7 +62,7 @@ pub fn fresh(s: Settings) -> State
         order: Order::Idle,
         position: Position {
             portfolio: Portfolio::new(s.capital),
-            entered: Entered::Never,
+            entered: None,
             extreme: 0.0,
         },
         last: Last {

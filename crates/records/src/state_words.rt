@@ -10,7 +10,6 @@ use crate::fields::{float_in, padded, word_in};
 use crate::state::{Counts, Last, Order, Position, State};
 use execution::level::OrderKind;
 use portfolio::Portfolio;
-use rules::position::Entered;
 use words::limits::STATE_WORDS;
 use words::places;
 
@@ -36,13 +35,13 @@ fn entry_kind_of(kind: u64, level: f64, limit: f64) -> OrderKind
     }
 }
 
-pub fn entered_of(kind: u64, bar: u64) -> Entered
+pub fn entered_of(kind: u64, bar: u64) -> Option<u64>
     ensures { result ≡ entered_of kind bar }
 {
     if kind == 0 {
-        return Entered::Never;
+        return None;
     }
-    Entered::Bar(bar)
+    Some(bar)
 }
 
 fn counts_of(words: &[u64]) -> Counts
@@ -188,21 +187,21 @@ fn limit_word(kind: OrderKind) -> u64
     }
 }
 
-fn entered_kind(entered: Entered) -> u64
+fn entered_kind(entered: Option<u64>) -> u64
     ensures { result ≡ entered_kind entered }
 {
     match entered {
-        Entered::Never => 0,
-        Entered::Bar(_) => 1,
+        None => 0,
+        Some(_) => 1,
     }
 }
 
-fn entry_bar(entered: Entered) -> u64
+fn entry_bar(entered: Option<u64>) -> u64
     ensures { result ≡ entry_bar entered }
 {
     match entered {
-        Entered::Never => 0,
-        Entered::Bar(bar) => bar,
+        None => 0,
+        Some(bar) => bar,
     }
 }
 

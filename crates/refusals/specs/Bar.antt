@@ -1,11 +1,12 @@
 -- Refusal 11: the new bar.
-use Rattle.std.specs.Prelude.{ℕ, zero, suc, ◌+◌, ◌/◌, ◌%◌, ◌^◌, Bool, true, false, cond, ◌&&◌, List, [], ◌∷◌, get_or, ltb, eqb}
+use Rattle.std.specs.Prelude.{ℕ, zero, suc, ◌+◌, ◌/◌, ◌%◌, ◌^◌, Bool, true, false, cond, ◌&&◌, List, [], ◌∷◌, get_or, ltb, eqb, None, Option, Some}
 use Rattle.words.specs.{Limits.most_slots}
 use Rattle.floats.specs.{Floats.finite, Floats.float_of}
 use Rattle.portfolio.specs.{declared.Candle.Candle}
-use Rattle.execution.specs.{declared.costs.Funding.Funding, declared.costs.Funding.TheVariants.NotSupplied, declared.costs.Funding.TheVariants.Supplied}
+use Rattle.execution.specs.{declared.costs.Funding.Funding}
 use Rattle.records.specs.{Bar.candle_of, Bar.funding_of}
 use Rattle.refusals.specs.{Lines.Line, Lines.line}
+use Rattle.words.specs.declared.refusal.Refusal.TheVariants as Refusal
 
 -- "present slot not finite, or a slot bit at or above K": of bit k, the lowest of m. The word of an absent slot is not
 -- looked at.
@@ -26,9 +27,9 @@ unfoldable pub slots_fine : ℕ → List ℕ → Bool
 slots_fine K bar = every most_slots (slot_fine K bar)
 
 -- "mark, rate .. not finite"
-abbrev pub funding_fine : Funding → Bool
-funding_fine NotSupplied = true
-funding_fine (Supplied mark rate) = finite mark && finite rate
+abbrev pub funding_fine : Option Funding → Bool
+funding_fine None = true
+funding_fine (Some funding) = finite funding.mark && finite funding.rate
 
 -- "a price, volume .. not finite"
 abbrev pub candle_fine : Candle → Bool
@@ -38,7 +39,7 @@ candle_fine k = finite k.«open» && finite k.high && finite k.low && finite k.c
 -- K"; the place is bars seen. Funding is checked where it is supplied, be it switched on or off.
 unfoldable pub bar_lines : ℕ → List ℕ → ℕ → List Line
 bar_lines K bar seen =
-    line (candle_fine (candle_of bar)) 11 seen
-    ∷ line (slots_fine K bar) 11 seen
-    ∷ line (funding_fine (funding_of K bar)) 11 seen
+    line (candle_fine (candle_of bar)) (Refusal.Bar seen)
+    ∷ line (slots_fine K bar) (Refusal.Bar seen)
+    ∷ line (funding_fine (funding_of K bar)) (Refusal.Bar seen)
     ∷ []

@@ -1,7 +1,6 @@
 -- Refusal 12. Settings are numbered as docs/ lists them.
-use Rattle.std.specs.Prelude.{ℕ, Bool, true, false, ◌&&◌, List, [], ◌∷◌, ◌++◌, ltb, leb, Float}
+use Rattle.std.specs.Prelude.{ℕ, Bool, true, false, ◌&&◌, List, [], ◌∷◌, ◌++◌, ltb, leb, Float, None, Option, Some}
 use Rattle.floats.specs.{Floats.◌≼◌, Floats.finite, Floats.zero}
-use Rattle.execution.specs.{declared.optional.Optional.Optional, declared.optional.Optional.TheVariants.Absent, declared.optional.Optional.TheVariants.Of}
 use Rattle.execution.specs.{declared.terms.Risk.Risk, declared.terms.Sizing.Sizing, declared.terms.Sizing.TheVariants.FixedFraction}
 use Rattle.execution.specs.{declared.terms.Sizing.TheVariants.FixedQty, declared.terms.Sizing.TheVariants.FixedCash}
 use Rattle.execution.specs.{declared.terms.Sizing.TheVariants.VolTarget, declared.terms.Sizing.TheVariants.RiskPerTrade}
@@ -14,6 +13,7 @@ use Rattle.execution.specs.{declared.level.OrderType.TheVariants.Unknown as Unkn
 use Rattle.records.specs.{declared.settings.Settings.Settings}
 use Rattle.words.specs.{Limits.most_slots, Limits.most_rows, Limits.most_reach}
 use Rattle.refusals.specs.{Lines.Line, Lines.line}
+use Rattle.words.specs.declared.refusal.Refusal.TheVariants as Refusal
 
 -- setting 7: only VolTarget has one
 abbrev pub lookback : Sizing → ℕ
@@ -55,14 +55,14 @@ slippage_value (VolumeImpact x) = x
 slippage_value UnknownSlippage = zero
 
 -- "a setting not finite": a level that is absent is none
-abbrev pub level_fine : Optional → Bool
-level_fine Absent = true
-level_fine (Of x) = finite x
+abbrev pub level_fine : Option Float → Bool
+level_fine None = true
+level_fine (Some x) = finite x
 
 -- "risk sizing without stop loss"
-abbrev pub stop_there : Sizing → Optional → Bool
-stop_there (RiskPerTrade x) Absent = false
-stop_there (RiskPerTrade x) (Of p) = true
+abbrev pub stop_there : Sizing → Option Float → Bool
+stop_there (RiskPerTrade x) None = false
+stop_there (RiskPerTrade x) (Some p) = true
 stop_there (FixedFraction x) stop = true
 stop_there (FixedQty x) stop = true
 stop_there (FixedCash x) stop = true
@@ -80,37 +80,37 @@ lot_fine lot = finite lot && (zero ≼ lot)
 -- settings 5 to 7
 unfoldable pub sizing_lines : Sizing → List Line
 sizing_lines sizing =
-    line (sizing_known sizing) 12 5
-    ∷ line (finite (sizing_value sizing)) 12 6
-    ∷ line (leb (lookback sizing) most_reach) 12 7
+    line (sizing_known sizing) (Refusal.Setting 5)
+    ∷ line (finite (sizing_value sizing)) (Refusal.Setting 6)
+    ∷ line (leb (lookback sizing) most_reach) (Refusal.Setting 7)
     ∷ []
 
 -- settings 9 and 10
 unfoldable pub slippage_lines : Slippage → List Line
 slippage_lines slippage =
-    line (slippage_known slippage) 12 9
-    ∷ line (finite (slippage_value slippage)) 12 10
+    line (slippage_known slippage) (Refusal.Setting 9)
+    ∷ line (finite (slippage_value slippage)) (Refusal.Setting 10)
     ∷ []
 
 -- settings 12 to 16
 unfoldable pub risk_lines : Sizing → Risk → List Line
 risk_lines sizing risk =
-    line (stop_there sizing risk.stop_loss_pct) 12 12
-    ∷ line (level_fine risk.stop_loss_pct) 12 12
-    ∷ line (level_fine risk.trailing_stop_pct) 12 13
-    ∷ line (level_fine risk.take_profit_pct) 12 14
-    ∷ line (level_fine risk.max_leverage) 12 15
-    ∷ line (level_fine risk.max_position_pct) 12 16
+    line (stop_there sizing risk.stop_loss_pct) (Refusal.Setting 12)
+    ∷ line (level_fine risk.stop_loss_pct) (Refusal.Setting 12)
+    ∷ line (level_fine risk.trailing_stop_pct) (Refusal.Setting 13)
+    ∷ line (level_fine risk.take_profit_pct) (Refusal.Setting 14)
+    ∷ line (level_fine risk.max_leverage) (Refusal.Setting 15)
+    ∷ line (level_fine risk.max_position_pct) (Refusal.Setting 16)
     ∷ []
 
 -- settings 5 to 19 but 11
 unfoldable pub term_lines : Terms → List Line
 term_lines t =
     sizing_lines t.sizing
-    ++ (line (finite t.taker_bps) 12 8
+    ++ (line (finite t.taker_bps) (Refusal.Setting 8)
     ∷ (slippage_lines t.slippage
     ++ (risk_lines t.sizing t.risk
-    ++ (line (finite t.max_participation) 12 19
+    ++ (line (finite t.max_participation) (Refusal.Setting 19)
     ∷ []))))
 
 -- "an unknown order kind gives 12": setting 20
@@ -124,19 +124,19 @@ order_type_known StopLimit = true
 -- settings 20 to 24: "a setting not finite", a percentage that its kind does not use too
 unfoldable pub entry_lines : Entries → Float → List Line
 entry_lines e lot =
-    line (order_type_known e.order_type) 12 20
-    ∷ line (finite e.level_pct) 12 21
-    ∷ line (finite e.limit_pct) 12 22
-    ∷ line (finite e.maker_bps) 12 23
-    ∷ line (lot_fine lot) 12 24
+    line (order_type_known e.order_type) (Refusal.Setting 20)
+    ∷ line (finite e.level_pct) (Refusal.Setting 21)
+    ∷ line (finite e.limit_pct) (Refusal.Setting 22)
+    ∷ line (finite e.maker_bps) (Refusal.Setting 23)
+    ∷ line (lot_fine lot) (Refusal.Setting 24)
     ∷ []
 
 -- "12: a setting not finite or of an unknown kind, lookback above 4,095, risk sizing without stop loss; a given K above
 -- 64, a given D outside 1 to 4,096 or not above a VolTarget lookback"; the place is the setting's number.
 unfoldable pub setting_lines : Settings → List Line
 setting_lines s =
-    line (leb s.slots most_slots) 12 0
-    ∷ line (depth_fine s.depth s.terms.sizing) 12 1
-    ∷ line (finite s.capital) 12 2
+    line (leb s.slots most_slots) (Refusal.Setting 0)
+    ∷ line (depth_fine s.depth s.terms.sizing) (Refusal.Setting 1)
+    ∷ line (finite s.capital) (Refusal.Setting 2)
     ∷ (term_lines s.terms
     ++ entry_lines s.entries s.terms.lot)

@@ -46,8 +46,8 @@ fn funding_fine(funding: Funding) -> bool
     ensures { result ≡ funding_fine funding }
 {
     match funding {
-        Funding::NotSupplied => true,
-        Funding::Supplied(mark, rate) => {
+        None => true,
+        Some(Funding { mark, rate }) => {
             if floats::is_finite(mark) {
                 return floats::is_finite(rate);
             }
@@ -87,22 +87,13 @@ pub fn judge_bar(slots: usize, bar: &[u64], seen: u64) -> Verdict
     ensures { result ≡ judged (bar_lines slots bar.now seen) }
 {
     if !candle_fine(bar) {
-        return Verdict::Bad(Refusal {
-            number: 11,
-            place: seen,
-        });
+        return Err(Refusal::Bar(seen));
     }
     if !slots_fine(bar, slots) {
-        return Verdict::Bad(Refusal {
-            number: 11,
-            place: seen,
-        });
+        return Err(Refusal::Bar(seen));
     }
     if !funding_fine(funding_of(bar, slots)) {
-        return Verdict::Bad(Refusal {
-            number: 11,
-            place: seen,
-        });
+        return Err(Refusal::Bar(seen));
     }
-    Verdict::Fine
+    Ok(())
 }

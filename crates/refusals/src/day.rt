@@ -42,22 +42,19 @@ pub fn judge_day(
 ) -> Verdict
     ensures { result ≡ judged (day_lines span s t bars.now (rooms rows.now equity.now trades.now)) }
 {
-    if let Verdict::Bad(refusal) = rooms::judge_room(s, rows) {
-        return Verdict::Bad(refusal);
+    if let Err(refusal) = rooms::judge_room(s, rows) {
+        return Err(refusal);
     }
-    if let Verdict::Bad(refusal) = setting::judge_settings(s) {
-        return Verdict::Bad(refusal);
+    if let Err(refusal) = setting::judge_settings(s) {
+        return Err(refusal);
     }
-    if let Verdict::Bad(refusal) = rooms::judge_state(s, t, rows, equity, trades) {
-        return Verdict::Bad(refusal);
+    if let Err(refusal) = rooms::judge_state(s, t, rows, equity, trades) {
+        return Err(refusal);
     }
     if are_for(span, bars, s.slots) {
-        return Verdict::Fine;
+        return Ok(());
     }
-    Verdict::Bad(Refusal {
-        number: 13,
-        place: 0,
-    })
+    Err(Refusal::Records)
 }
 
 // Whether the next of them can be taken: its counts, 14 and 11.
@@ -65,10 +62,7 @@ pub fn judge_next(slots: usize, n: Counts, bar: &[u64], equity: &[u64], trades: 
     ensures { result ≡ judged (next_lines slots n bar.now equity.now trades.now) }
 {
     if !rooms::counts_fine(n) {
-        return Verdict::Bad(Refusal {
-            number: 13,
-            place: 0,
-        });
+        return Err(Refusal::Records);
     }
     let fourteen = rooms::judge_place(n, equity, trades);
     let eleven = bar::judge_bar(slots, bar, n.bars_seen);

@@ -35,34 +35,19 @@ pub(crate) fn judge_entries(e: Entries, lot: f64) -> Verdict
 {
     let order_type = e.order_type;
     if !order_type_known(order_type) {
-        return Verdict::Bad(Refusal {
-            number: 12,
-            place: 20,
-        });
+        return Err(Refusal::Setting(20));
     }
     if !floats::is_finite(e.level_pct) {
-        return Verdict::Bad(Refusal {
-            number: 12,
-            place: 21,
-        });
+        return Err(Refusal::Setting(21));
     }
     if !floats::is_finite(e.limit_pct) {
-        return Verdict::Bad(Refusal {
-            number: 12,
-            place: 22,
-        });
+        return Err(Refusal::Setting(22));
     }
     if !floats::is_finite(e.maker_bps) {
-        return Verdict::Bad(Refusal {
-            number: 12,
-            place: 23,
-        });
+        return Err(Refusal::Setting(23));
     }
     if !lot_fine(lot) {
-        return Verdict::Bad(Refusal {
-            number: 12,
-            place: 24,
-        });
+        return Err(Refusal::Setting(24));
     }
-    Verdict::Fine
+    Ok(())
 }

@@ -5,7 +5,6 @@ ghost use Rattle.refusals.specs.Lines.{judged};
 ghost use Rattle.refusals.specs.Lists.{list_line, list_lines, lists_of};
 
 use crate::verdict::Verdict;
-use steps::wellformed::Formed;
 use words::limits::MOST_STEPS;
 use words::refusal::Refusal;
 
@@ -24,17 +23,14 @@ fn judge_list(slots: usize, depth: usize, steps: &[u8], list: u64) -> Verdict
     ensures { result ≡ judged (list_line (formed slots depth steps.now) list ∷ []) }
 {
     if steps.is_empty() {
-        return Verdict::Fine;
+        return Ok(());
     }
     let form = steps::wellformed::check(steps, slots as u64, depth as u64);
     match form {
-        Formed::Well => Verdict::Fine,
-        Formed::Bad(p) => {
+        Ok(()) => Ok(()),
+        Err(p) => {
             let place = MOST_STEPS as u64 * list + p as u64;
-            Verdict::Bad(Refusal {
-                number: 15,
-                place: place,
-            })
+            Err(Refusal::Steps(place))
         }
     }
 }
@@ -43,14 +39,14 @@ fn judge_list(slots: usize, depth: usize, steps: &[u8], list: u64) -> Verdict
 pub fn judge_lists<'a>(slots: usize, depth: usize, trees: Lists<'a>) -> Verdict
     ensures { result ≡ judged (list_lines slots depth (lists_of trees.entry)) }
 {
-    if let Verdict::Bad(refusal) = judge_list(slots, depth, trees.entry, 0) {
-        return Verdict::Bad(refusal);
+    if let Err(refusal) = judge_list(slots, depth, trees.entry, 0) {
+        return Err(refusal);
     }
-    if let Verdict::Bad(refusal) = judge_list(slots, depth, trees.exit, 1) {
-        return Verdict::Bad(refusal);
+    if let Err(refusal) = judge_list(slots, depth, trees.exit, 1) {
+        return Err(refusal);
     }
-    if let Verdict::Bad(refusal) = judge_list(slots, depth, trees.short_entry, 2) {
-        return Verdict::Bad(refusal);
+    if let Err(refusal) = judge_list(slots, depth, trees.short_entry, 2) {
+        return Err(refusal);
     }
     judge_list(slots, depth, trees.short_exit, 3)
 }

@@ -7,7 +7,6 @@ ghost use Rattle.refusals.specs.Rooms.{room_lines, counts_fine, held_fine, entry
 use crate::verdict::{Verdict, line};
 use records::settings::Settings;
 use records::state::{Counts, State};
-use rules::position::Entered;
 use words::limits::{MOST_COUNT, POINT_WORDS, TRADE_WORDS};
 use words::refusal::Refusal;
 
@@ -16,12 +15,9 @@ pub fn judge_room(s: Settings, rows: &[u64]) -> Verdict
     ensures { result ≡ judged (room_lines s rows.now) }
 {
     if rows::row_count(rows, s.slots) < s.depth {
-        return Verdict::Bad(Refusal {
-            number: 10,
-            place: 0,
-        });
+        return Err(Refusal::Room(0));
     }
-    Verdict::Fine
+    Ok(())
 }
 
 // Whether no count is above what a count may be.
@@ -54,12 +50,12 @@ fn held_fine(slots: usize, n: Counts, rows: &[u64], equity: &[u64], trades: &[u6
 }
 
 // Whether the entry bar, if there is one, is below the bars seen.
-pub fn entry_below(entered: Entered, seen: u64) -> bool
+pub fn entry_below(entered: Option<u64>, seen: u64) -> bool
     ensures { result ≡ entry_below entered seen }
 {
     match entered {
-        Entered::Never => true,
-        Entered::Bar(b) => b < seen,
+        None => true,
+        Some(b) => b < seen,
     }
 }
 
@@ -69,26 +65,17 @@ pub fn judge_state(s: Settings, t: State, rows: &[u64], equity: &[u64], trades: 
 {
     let n = t.counts;
     if !counts_fine(n) {
-        return Verdict::Bad(Refusal {
-            number: 13,
-            place: 0,
-        });
+        return Err(Refusal::Records);
     }
     if !held_fine(s.slots, n, rows, equity, trades) {
-        return Verdict::Bad(Refusal {
-            number: 13,
-            place: 0,
-        });
+        return Err(Refusal::Records);
     }
     let position = t.position;
     let entered = position.entered;
     if !entry_below(entered, n.bars_seen) {
-        return Verdict::Bad(Refusal {
-            number: 13,
-            place: 0,
-        });
+        return Err(Refusal::Records);
     }
-    Verdict::Fine
+    Ok(())
 }
 
 // 14 as a step begins.
@@ -96,24 +83,15 @@ pub fn judge_place(n: Counts, equity: &[u64], trades: &[u64]) -> Verdict
     ensures { result ≡ judged (place_lines n equity.now trades.now) }
 {
     if equity.len() / POINT_WORDS <= n.equity_points {
-        return Verdict::Bad(Refusal {
-            number: 14,
-            place: 0,
-        });
+        return Err(Refusal::Full);
     }
     if trades.len() / TRADE_WORDS <= n.trades {
-        return Verdict::Bad(Refusal {
-            number: 14,
-            place: 0,
-        });
+        return Err(Refusal::Full);
     }
     if MOST_COUNT <= n.bars_seen {
-        return Verdict::Bad(Refusal {
-            number: 14,
-            place: 0,
-        });
+        return Err(Refusal::Full);
     }
-    Verdict::Fine
+    Ok(())
 }
 
 // Whether finish closes a position: one is open, and a bar was seen.
@@ -132,5 +110,5 @@ pub fn judge_close(t: State, trades: &[u64]) -> Verdict
 {
     let n = t.counts;
     let free = n.trades < trades.len() / TRADE_WORDS;
-    line(!to_close(t) | free, 14, 0, Verdict::Fine)
+    line(!to_close(t) | free, Refusal::Full, Ok(()))
 }

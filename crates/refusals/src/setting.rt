@@ -6,7 +6,6 @@ ghost use Rattle.refusals.specs.Settings.{depth_fine, sizing_lines, slippage_lin
 
 use crate::entries;
 use crate::verdict::Verdict;
-use execution::optional::Optional;
 use execution::terms::{Risk, Sizing, Slippage, Terms};
 use records::settings::Settings;
 use words::limits::{MOST_REACH, MOST_ROWS, MOST_SLOTS};
@@ -73,23 +72,23 @@ fn slippage_value(slippage: Slippage) -> f64
 }
 
 // A level that is there is finite.
-fn level_fine(level: Optional) -> bool
+fn level_fine(level: Option<f64>) -> bool
     ensures { result ≡ level_fine level }
 {
     match level {
-        Optional::Absent => true,
-        Optional::Of(x) => floats::is_finite(x),
+        None => true,
+        Some(x) => floats::is_finite(x),
     }
 }
 
 // Risk sizing has its stop loss.
-fn stop_there(sizing: Sizing, stop: Optional) -> bool
+fn stop_there(sizing: Sizing, stop: Option<f64>) -> bool
     ensures { result ≡ stop_there sizing stop }
 {
     match sizing {
         Sizing::RiskPerTrade(_) => match stop {
-            Optional::Absent => false,
-            Optional::Of(_) => true,
+            None => false,
+            Some(_) => true,
         },
         Sizing::FixedFraction(_) => true,
         Sizing::FixedQty(_) => true,
@@ -117,24 +116,15 @@ fn judge_sizing(sizing: Sizing) -> Verdict
     ensures { result ≡ judged (sizing_lines sizing) }
 {
     if !sizing_known(sizing) {
-        return Verdict::Bad(Refusal {
-            number: 12,
-            place: 5,
-        });
+        return Err(Refusal::Setting(5));
     }
     if !floats::is_finite(sizing_value(sizing)) {
-        return Verdict::Bad(Refusal {
-            number: 12,
-            place: 6,
-        });
+        return Err(Refusal::Setting(6));
     }
     if MOST_REACH < lookback_of(sizing) {
-        return Verdict::Bad(Refusal {
-            number: 12,
-            place: 7,
-        });
+        return Err(Refusal::Setting(7));
     }
-    Verdict::Fine
+    Ok(())
 }
 
 // Settings 9 and 10.
@@ -142,18 +132,12 @@ fn judge_slippage(slippage: Slippage) -> Verdict
     ensures { result ≡ judged (slippage_lines slippage) }
 {
     if !slippage_known(slippage) {
-        return Verdict::Bad(Refusal {
-            number: 12,
-            place: 9,
-        });
+        return Err(Refusal::Setting(9));
     }
     if !floats::is_finite(slippage_value(slippage)) {
-        return Verdict::Bad(Refusal {
-            number: 12,
-            place: 10,
-        });
+        return Err(Refusal::Setting(10));
     }
-    Verdict::Fine
+    Ok(())
 }
 
 // Settings 12 to 16.
@@ -166,42 +150,24 @@ fn judge_risk(sizing: Sizing, risk: Risk) -> Verdict
     let leverage = risk.max_leverage;
     let position = risk.max_position_pct;
     if !stop_there(sizing, stop) {
-        return Verdict::Bad(Refusal {
-            number: 12,
-            place: 12,
-        });
+        return Err(Refusal::Setting(12));
     }
     if !level_fine(stop) {
-        return Verdict::Bad(Refusal {
-            number: 12,
-            place: 12,
-        });
+        return Err(Refusal::Setting(12));
     }
     if !level_fine(trailing) {
-        return Verdict::Bad(Refusal {
-            number: 12,
-            place: 13,
-        });
+        return Err(Refusal::Setting(13));
     }
     if !level_fine(take) {
-        return Verdict::Bad(Refusal {
-            number: 12,
-            place: 14,
-        });
+        return Err(Refusal::Setting(14));
     }
     if !level_fine(leverage) {
-        return Verdict::Bad(Refusal {
-            number: 12,
-            place: 15,
-        });
+        return Err(Refusal::Setting(15));
     }
     if !level_fine(position) {
-        return Verdict::Bad(Refusal {
-            number: 12,
-            place: 16,
-        });
+        return Err(Refusal::Setting(16));
     }
-    Verdict::Fine
+    Ok(())
 }
 
 // Settings 5 to 19 but 11.
@@ -211,28 +177,22 @@ fn judge_terms(t: Terms) -> Verdict
     let sizing = t.sizing;
     let slippage = t.slippage;
     let risk = t.risk;
-    if let Verdict::Bad(refusal) = judge_sizing(sizing) {
-        return Verdict::Bad(refusal);
+    if let Err(refusal) = judge_sizing(sizing) {
+        return Err(refusal);
     }
     if !floats::is_finite(t.taker_bps) {
-        return Verdict::Bad(Refusal {
-            number: 12,
-            place: 8,
-        });
+        return Err(Refusal::Setting(8));
     }
-    if let Verdict::Bad(refusal) = judge_slippage(slippage) {
-        return Verdict::Bad(refusal);
+    if let Err(refusal) = judge_slippage(slippage) {
+        return Err(refusal);
     }
-    if let Verdict::Bad(refusal) = judge_risk(sizing, risk) {
-        return Verdict::Bad(refusal);
+    if let Err(refusal) = judge_risk(sizing, risk) {
+        return Err(refusal);
     }
     if !floats::is_finite(t.max_participation) {
-        return Verdict::Bad(Refusal {
-            number: 12,
-            place: 19,
-        });
+        return Err(Refusal::Setting(19));
     }
-    Verdict::Fine
+    Ok(())
 }
 
 // All settings, in the order of their numbers: the lowest decides, and none above it is looked at.
@@ -243,25 +203,16 @@ pub fn judge_settings(s: Settings) -> Verdict
     let placing = s.entries;
     let sizing = terms.sizing;
     if MOST_SLOTS < s.slots {
-        return Verdict::Bad(Refusal {
-            number: 12,
-            place: 0,
-        });
+        return Err(Refusal::Setting(0));
     }
     if !depth_fine(s.depth, sizing) {
-        return Verdict::Bad(Refusal {
-            number: 12,
-            place: 1,
-        });
+        return Err(Refusal::Setting(1));
     }
     if !floats::is_finite(s.capital) {
-        return Verdict::Bad(Refusal {
-            number: 12,
-            place: 2,
-        });
+        return Err(Refusal::Setting(2));
     }
-    if let Verdict::Bad(refusal) = judge_terms(terms) {
-        return Verdict::Bad(refusal);
+    if let Err(refusal) = judge_terms(terms) {
+        return Err(refusal);
     }
     entries::judge_entries(placing, terms.lot)
 }

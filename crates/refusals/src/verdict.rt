@@ -20,7 +20,7 @@ pub fn line(ok: bool, number: u64, place: u64, below: Verdict) -> Verdict
     if ok {
         return below;
     }
-    Verdict::Bad(Refusal { number, place })
+    Err(Refusal { number, place })
 }
 
 // Lines that are judged by themselves, over others: the first of the two that is not fine.
@@ -28,7 +28,7 @@ pub fn first_bad(a: Verdict, b: Verdict) -> Verdict
     ensures { result ≡ first_bad a b }
 {
     match a {
-        Verdict::Fine => b,
-        Verdict::Bad(refusal) => Verdict::Bad(refusal),
+        Ok(()) => b,
+        Err(refusal) => Err(refusal),
     }
 }

@@ -22,7 +22,7 @@ pub const HALF: u64 = 4_294_967_296;
 pub fn answer_word(refusal: Refusal) -> u64
     ensures { result ≡ answer_word refusal }
 {
-    refusal.number % HALF * HALF + refusal.place % HALF
+    refusal.number() % HALF * HALF + refusal.place() % HALF
 }
 
 // Yes is 1, no is 0.
@@ -36,9 +36,9 @@ pub fn bit_of(b: bool) -> u64
 pub fn judge_words(settings: &[u64], state: &[u64]) -> Verdict
     ensures { result ≡ judged (word_lines settings.now state.now) }
 {
-    let below = Verdict::Fine;
-    let below = line(STATE_WORDS <= state.len(), 10, STATE_ROOM, below);
-    line(SETTING_WORDS <= settings.len(), 10, SETTINGS_ROOM, below)
+    let below = Ok(());
+    let below = line(STATE_WORDS <= state.len(), Refusal::Room(STATE_ROOM), below);
+    line(SETTING_WORDS <= settings.len(), Refusal::Room(SETTINGS_ROOM), below)
 }
 
 // 10: the metrics have their words.
@@ -46,5 +46,5 @@ pub fn judge_metrics(metrics: &[u64]) -> Verdict
     ensures { result ≡ judged (metric_lines metrics.now) }
 {
     let enough = METRIC_WORDS <= metrics.len();
-    line(enough, 10, METRICS_ROOM, Verdict::Fine)
+    line(enough, Refusal::Room(METRICS_ROOM), Ok(()))
 }

@@ -1,6 +1,6 @@
 -- ACCEPTANCE: what a dump writes whole, a restore accepts. "A cut after any byte leaves an image that is refused, or the whole one": the whole one is
 -- not refused.
-use Rattle.std.specs.Prelude.{ℕ, ◌+◌, ◌-◌, ◌*◌, ◌/◌, ◌%◌, ◌≤◌, ◌≡◌, refl, true, List, ◌++◌, eqb, length, get_or}
+use Rattle.std.specs.Prelude.{ℕ, ◌+◌, ◌-◌, ◌*◌, ◌/◌, ◌%◌, ◌≤◌, ◌≡◌, refl, true, List, ◌++◌, eqb, length, get_or, Ok}
 use Rattle.words.specs.Prelude.{ap, ◌∙◌, mod-eq_of_lt, arith, le-leb, eq-eqb}
 use Rattle.words.specs.Prelude.{List·get_or-eq_default}
 use Rattle.words.specs.{Limits.row_words, Limits.most_count, Words.word}
@@ -8,7 +8,7 @@ use Rattle.rows.specs.{History.last_rows}
 use Rattle.table.specs.{Bytes.u16, Bytes.u64}
 use Rattle.records.specs.{declared.settings.Settings.Settings, declared.state.State.State, Lent.Lists, Lent.Rooms, Lent.row_places, State.fresh_state}
 use Rattle.records.specs.{StateWords.words_of}
-use Rattle.refusals.specs.{declared.verdict.Verdict.TheVariants.Fine, Bar.bar_lines, Judgement.run_lines, Judgement.step_lines, Judgement.step_judged}
+use Rattle.refusals.specs.{Bar.bar_lines, Judgement.run_lines, Judgement.step_lines, Judgement.step_judged}
 use Rattle.refusals.specs.{Lines.judged, Rooms.room_lines, Rooms.place_lines, Settings.setting_lines, Laws.Fine.settings_fine}
 use Rattle.refusals.specs.{Laws.Fine.step_fine, Laws.Lines.first_holds, Laws.Lines.below_fine, Laws.Lines.both_fine}
 use Rattle.engine.specs.{Boxes.Sound, Laws.Lengths.row_long, Laws.Runs.run_keeps, Laws.Underway.entry_stays, Record.row_of, Record.held_rows, Run.Run}
@@ -30,7 +30,7 @@ use Rattle.restart.specs.{Laws.Says.unused_fine, Laws.Says.numbers_fine_lem, Law
 abbrev pub AcceptedTheorem : Type 0
 AcceptedTheorem =
     (s : Settings) (t : State) (m : Rooms) → Dumpable s t m
-    → (rows : List ℕ) → judged (room_lines s rows) ≡ Fine → judged (setting_lines s) ≡ Fine → restore_judged s (image_of s t m.rows) rows ≡ Fine
+    → (rows : List ℕ) → judged (room_lines s rows) ≡ Ok tt → judged (setting_lines s) ≡ Ok tt → restore_judged s (image_of s t m.rows) rows ≡ Ok tt
 
 -- REQUEST 11, ACCEPTANCE: after any bars from a fresh state the whole image is restored: 10, 12, 19 and 20 refuse nothing, with the settings that it was
 -- written with, if 12 lets them pass, and over any row room with D places.
@@ -38,8 +38,8 @@ abbrev pub ReachedTheorem : Type 0
 ReachedTheorem =
     (s : Settings) (ls : Lists) (m : Rooms) (bars : List (List ℕ)) → s.depth ≤ row_places s.slots m.rows
     → let b = run_over s ls (fresh_state s) m bars in
-    Storable s b.state b.rooms → judged (setting_lines s) ≡ Fine → (rows : List ℕ) → s.depth ≤ row_places s.slots rows
-    → restore_judged s (image_of s b.state b.rooms.rows) rows ≡ Fine
+    Storable s b.state b.rooms → judged (setting_lines s) ≡ Ok tt → (rows : List ℕ) → s.depth ≤ row_places s.slots rows
+    → restore_judged s (image_of s b.state b.rooms.rows) rows ≡ Ok tt
 
 -- ---- the bytes
 
@@ -146,7 +146,7 @@ module _ (s : Settings) (t : State) (m : Rooms) (fit : Dumpable s t m) where
   -- ---- the lines
 
   -- none of the lines of 19 holds it up
-  image_passes : 1 ≤ s.depth → judged (image_lines x) ≡ Fine
+  image_passes : 1 ≤ s.depth → judged (image_lines x) ≡ Ok tt
   unfolding judged image_lines x count W
   image_passes some =
       let o = t.order in
@@ -159,11 +159,11 @@ module _ (s : Settings) (t : State) (m : Rooms) (fit : Dumpable s t m) where
       rw (shape, nums, unused_fine x s.slots s.depth seen count o e says, spare_said s t m.rows, spares_said s t m.rows, rows_fine_lem)
 
   -- nor does 20, with the same settings
-  same_passes : judged (same_lines s x) ≡ Fine
+  same_passes : judged (same_lines s x) ≡ Ok tt
   unfolding judged same_lines
   same_passes = rw (says.depth, says.slots, eq-eqb s.depth s.depth refl, eq-eqb s.slots s.slots refl)
 
-  passes : (rows : List ℕ) → judged (room_lines s rows) ≡ Fine → judged (setting_lines s) ≡ Fine → restore_judged s (image_of s t m.rows) rows ≡ Fine
+  passes : (rows : List ℕ) → judged (room_lines s rows) ≡ Ok tt → judged (setting_lines s) ≡ Ok tt → restore_judged s (image_of s t m.rows) rows ≡ Ok tt
   unfolding restore_judged restore_lines x
   passes rows ten twelve =
       below_fine (room_lines s rows) _ ten ∙ below_fine (setting_lines s) _ twelve
@@ -181,12 +181,12 @@ fresh_passed s m deep =
     let none = (window_whole s (fresh_state s) m.rows sound.within.rows).held in
     record { sound = sound; seen = omega arith; entry = refl; rows = λ i l. absurd (omega (arith, none)) }
 
-module _ (s : Settings) (ls : Lists) (t : State) (m : Rooms) (bar : List ℕ) (fine : step_verdict s t bar m ls ≡ Fine) where
-  pub step_judged_lem : step_judged s t bar m ls ≡ Fine
+module _ (s : Settings) (ls : Lists) (t : State) (m : Rooms) (bar : List ℕ) (fine : step_verdict s t bar m ls ≡ Ok tt) where
+  pub step_judged_lem : step_judged s t bar m ls ≡ Ok tt
   unfolding step_verdict step_judged
   step_judged_lem = (both_fine (step_lines s t bar m ls) _ fine).0
 
-  bar_passed : judged (bar_lines s.slots bar t.counts.bars_seen) ≡ Fine
+  bar_passed : judged (bar_lines s.slots bar t.counts.bars_seen) ≡ Ok tt
   unfolding step_judged step_lines
   bar_passed =
       let rest = (both_fine (run_lines s t m) _ step_judged_lem).1 in

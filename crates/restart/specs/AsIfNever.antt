@@ -1,6 +1,6 @@
 -- AS IF THE SUPPLY HAD NEVER FAILED: what the lives of a box held, and what the life under way holds, is what the rules of the table mean over every bar
 -- that was ever taken. No unbroken box is spoken of.
-use Rattle.std.specs.Prelude.{ℕ, ◌*◌, ◌/◌, ◌≤◌, ◌≡◌, true, List, ◌++◌, length, take, replicate}
+use Rattle.std.specs.Prelude.{ℕ, ◌*◌, ◌/◌, ◌≤◌, ◌≡◌, true, List, ◌++◌, length, take, replicate, Ok}
 use Rattle.words.specs.Prelude.{flat_map}
 use Rattle.words.specs.Prelude.{sym, ap, subst, ◌∙◌, mul-div_cancel, arith}
 use Rattle.words.specs.Prelude.{length-replicate}
@@ -8,7 +8,7 @@ use Rattle.words.specs.{Limits.most_count, Limits.point_words, Limits.trade_word
 use Rattle.portfolio.specs.{Trade.words_of_trade}
 use Rattle.records.specs.{declared.settings.Settings.Settings, Lent.Lists, Lent.Rooms, Lent.rooms, Lent.row_places, Lent.point_places, Lent.trade_places}
 use Rattle.records.specs.{State.fresh_state, Laws.RoundTrip.Floats64}
-use Rattle.refusals.specs.{declared.verdict.Verdict.TheVariants.Fine, Lines.judged, Rooms.entry_below, Settings.setting_lines}
+use Rattle.refusals.specs.{Lines.judged, Rooms.entry_below, Settings.setting_lines}
 use Rattle.engine.specs.{Books.words_of_point, Books.held_points, Books.held_trades, Boxes.NotFull, Boxes.Sound, Boxes.Holds, Rules.FromTable, Run.Run, Run.run_over}
 use Rattle.engine.specs.{Whole.Account, Whole.account_of, Whole.Ledger, Whole.meant_run}
 use Rattle.runs.specs.{AsMeant.as_meant, NeverFull.PlacesFor, NeverFull.never_full, Laws.TwoRuns.fresh_sound}
@@ -29,8 +29,8 @@ pub record AsIfNever (w : Ledger) (e : Run) (points trades : List ℕ) : Type 0 
 
 -- What a run has come to can be dumped, and its image is accepted.
 pub record Restorable (s : Settings) (e : Run) : Type 0 where
-  pub dumped : (area : List ℕ) → dump_bytes s.slots s.depth ≤ length area → dump_judged s e.state e.rooms.rows area ≡ Fine
-  pub accepted : (rows : List ℕ) → s.depth ≤ row_places s.slots rows → restore_judged s (image_of s e.state e.rooms.rows) rows ≡ Fine
+  pub dumped : (area : List ℕ) → dump_bytes s.slots s.depth ≤ length area → dump_judged s e.state e.rooms.rows area ≡ Ok tt
+  pub accepted : (rows : List ℕ) → s.depth ≤ row_places s.slots rows → restore_judged s (image_of s e.state e.rooms.rows) rows ≡ Ok tt
   pub size : length (image_of s e.state e.rooms.rows) ≡ dump_bytes s.slots s.depth
   pub sound : Sound s e.state e.rooms
 
@@ -52,7 +52,7 @@ large_places s m n few =
 
 -- Settings as 12 lets them pass and the code's types hold them; a fresh box over a row room with places for D rows; any number of lives; and any bars of
 -- the life under way, as long as its rooms are not full.
-module _ (s : Settings) (ls : Lists) (m : Rooms) (deep : s.depth ≤ row_places s.slots m.rows) (twelve : judged (setting_lines s) ≡ Fine)
+module _ (s : Settings) (ls : Lists) (m : Rooms) (deep : s.depth ≤ row_places s.slots m.rows) (twelve : judged (setting_lines s) ≡ Ok tt)
     (floats : Floats64 (fresh_state s)) (delay : Word64 s.delay) (lives : List Life) (lived : LivesOf s ls (fresh_state s) m lives)
     (bars : List (List ℕ)) (words : Bars64 (all_bars lives ++ bars)) (few : length (all_bars lives ++ bars) ≤ most_count)
     (free : NotFull (run_over s ls (last_state (fresh_state s) lives) (last_rooms m lives) bars).verdict) where
@@ -90,7 +90,7 @@ module _ (s : Settings) (ls : Lists) (m : Rooms) (deep : s.depth ≤ row_places 
             (subst (λ (a : Account). entry_below a.position.entered a.seen ≡ true) since.account entry.0)
             (subst (λ (a : Account). a.seen ≤ most_count) since.account entry.1) twelve place;
         accepted = λ rows place.
-            subst (λ (y : List ℕ). restore_judged s y rows ≡ Fine) since.image
+            subst (λ (y : List ℕ). restore_judged s y rows ≡ Ok tt) since.image
             (reached_accepted s ls big all deep (reached_storable s ls big all deep twelve floats delay words) twelve rows place);
         size = size_of_image s e.state e.rooms.rows since.sound.within.rows;
         sound = since.sound;

@@ -1,5 +1,5 @@
 -- THE WAY BACK: an image that a restore accepts, patterns of NaN apart, is the image of the state and the rows that it leaves.
-use Rattle.std.specs.Prelude.{ℕ, ◌+◌, ◌-◌, ◌*◌, ◌/◌, ◌%◌, ◌≤◌, ◌<◌, ◌≡◌, refl, Bool, true, false, ◌&&◌, List, leb, ltb, eqb, length, get_or, take, drop}
+use Rattle.std.specs.Prelude.{ℕ, ◌+◌, ◌-◌, ◌*◌, ◌/◌, ◌%◌, ◌≤◌, ◌<◌, ◌≡◌, refl, Bool, true, false, ◌&&◌, List, leb, ltb, eqb, length, get_or, take, drop, Ok}
 use Rattle.words.specs.Prelude.{sym, ap, ◌∙◌, mod-eq_of_lt, mul-div_cancel}
 use Rattle.words.specs.Prelude.{mul_assoc, mul_comm, mul-le-mul_right, zero-add, zero-mul, arith, leb-true, eqb-true, ltb-true, ltb-false}
 use Rattle.words.specs.Prelude.{List·get_or-eq_default, ext_get_or, take_at}
@@ -9,7 +9,7 @@ use Rattle.table.specs.{Bytes.u16, Bytes.u32, Bytes.u64, Bytes.Bytes}
 use Rattle.steps.specs.{Bytes.eight}
 use Rattle.records.specs.{declared.settings.Settings.Settings, StateWords.counts_of, StateWords.entered_of, StateWords.portfolio_of, StateWords.position_of}
 use Rattle.records.specs.{StateWords.state_of, StateWords.words_of}
-use Rattle.refusals.specs.{declared.verdict.Verdict.TheVariants.Fine, Lines.judged, Rooms.room_lines, Rooms.entry_below, Settings.setting_lines}
+use Rattle.refusals.specs.{Lines.judged, Rooms.room_lines, Rooms.entry_below, Settings.setting_lines}
 use Rattle.refusals.specs.{Laws.Lines.and_true, Laws.Lines.first_holds, Laws.Lines.both_fine}
 use Rattle.engine.specs.{Record.listed, Record.held_rows, Laws.Lengths.listed_long}
 use Rattle.images.specs.{Layout.head_bytes, Layout.dump_bytes, Layout.words_bytes, Layout.amounts, Layout.image, Layout.window_of, Layout.image_of, Reading.slots_in}
@@ -40,7 +40,7 @@ pub record Plain (x : List ℕ) : Type 0 where
 -- THE STATEMENT: dumping the state and the rows that a restore of an accepted image leaves gives the same bytes again.
 abbrev pub WayBackTheorem : Type 0
 WayBackTheorem =
-    (s : Settings) (x rows : List ℕ) → Bytes x → Plain x → restore_judged s x rows ≡ Fine → image_of s (state_in x) (overwrite rows 0 (window_in x)) ≡ x
+    (s : Settings) (x rows : List ℕ) → Bytes x → Plain x → restore_judged s x rows ≡ Ok tt → image_of s (state_in x) (overwrite rows 0 (window_in x)) ≡ x
 
 -- ---- what the lines of 19 have seen
 
@@ -52,7 +52,7 @@ record Seen (x : List ℕ) : Type 0 where
   spares : zero_at x 136 120 ≡ true
   rows : rows_fine x ≡ true
 
-seen_lines : (x : List ℕ) → judged (image_lines x) ≡ Fine → Seen x
+seen_lines : (x : List ℕ) → judged (image_lines x) ≡ Ok tt → Seen x
 unfolding image_lines
 seen_lines x h =
     let a = first_holds _ _ h in
@@ -255,7 +255,7 @@ window_held K D n rows W long few fits =
     let none : length W / row_words K - D ≡ 0 = omega arith in
     rw (held, none, zero-mul (row_words K)) refl
 
-module _ (s : Settings) (x rows : List ℕ) (bytes : Bytes x) (plain : Plain x) (fine : restore_judged s x rows ≡ Fine) where
+module _ (s : Settings) (x rows : List ℕ) (bytes : Bytes x) (plain : Plain x) (fine : restore_judged s x rows ≡ Ok tt) where
   seen : Seen x
   unfolding restore_judged restore_lines
   seen = seen_lines x (both_fine (image_lines x) _ (both_fine (setting_lines s) _ (both_fine (room_lines s rows) _ fine).1).1).0

@@ -1,8 +1,8 @@
 -- THE FIRST WORD CLEARED, so that an old image is not taken for a new one: before the first bar after a restore, and before an erase.
-use Rattle.std.specs.Prelude.{ℕ, ◌≤◌, ◌<◌, ◌≡◌, true, List, [], length, get_or}
+use Rattle.std.specs.Prelude.{ℕ, ◌≤◌, ◌<◌, ◌≡◌, true, List, [], length, get_or, Ok}
 use Rattle.words.specs.Prelude.{◌∙◌, arith}
 use Rattle.records.specs.{declared.settings.Settings.Settings, declared.state.State.State}
-use Rattle.refusals.specs.{declared.verdict.Verdict.TheVariants.Fine, Lines.judged, Rooms.room_lines, Settings.setting_lines}
+use Rattle.refusals.specs.{Lines.judged, Rooms.room_lines, Settings.setting_lines}
 use Rattle.images.specs.{Layout.dump_bytes, Layout.image_of, Refused.restore_judged, Laws.Fine.restore_fine}
 use Rattle.restart.specs.{FirstWord.Unmarked, FirstWord.RefusedOr, FirstWord.first_word_decides, Laws.Programs.programmed_long}
 use Rattle.restart.specs.{Laws.Programs.programmed_is, PagePlan.first_word, PagePlan.word_else, PagePlan.word_at, Plans.touches, Plans.programmed}
@@ -21,7 +21,7 @@ cleared_unmarked area l e =
     omega arith
 
 -- So is one that a restore accepted, of the size that the next dump asks for.
-pub cleared_again : (s : Settings) (x rows : List ℕ) → restore_judged s x rows ≡ Fine
+pub cleared_again : (s : Settings) (x rows : List ℕ) → restore_judged s x rows ≡ Ok tt
     → (length (cleared x) ≡ dump_bytes s.slots s.depth) × Unmarked (cleared x)
 unfolding dump_bytes
 cleared_again s x rows fine =
@@ -33,7 +33,7 @@ cleared_again s x rows fine =
 -- that was refused, where only its first word is not the image's.
 pub clearing_cut : (s : Settings) (t : State) (room rows area after : List ℕ) → length area ≡ length (image_of s t room)
     → ((i : ℕ) → 8 ≤ i → i < length area → get_or area i 0 ≡ get_or (image_of s t room) i 0) → Torn first_word area after
-    → judged (room_lines s rows) ≡ Fine → judged (setting_lines s) ≡ Fine → RefusedOr (restore_judged s after rows) after (image_of s t room)
+    → judged (room_lines s rows) ≡ Ok tt → judged (setting_lines s) ≡ Ok tt → RefusedOr (restore_judged s after rows) after (image_of s t room)
 clearing_cut s t room rows area after long behind torn ten twelve =
     first_word_decides s t room after torn.bytes (torn.long ∙ long)
     (λ i h l. torn.else i (word_else i h) ∙ behind i h (omega (arith, torn.long))) rows ten twelve

@@ -1,14 +1,15 @@
 -- "A cut after any byte leaves an image that is refused, or the whole one."
-use Rattle.std.specs.Prelude.{ℕ, ◌≤◌, ◌<◌, ◌≡◌, List, length, take}
+use Rattle.std.specs.Prelude.{ℕ, ◌≤◌, ◌<◌, ◌≡◌, List, length, take, Err, Ok}
 use Rattle.words.specs.Prelude.{sym, ◌∙◌, arith, get_or-take}
-use Rattle.words.specs.{Outcome.refusal, Laws.Records.records_fit, Limits.row_words}
+use Rattle.words.specs.{Laws.Records.records_fit, Limits.row_words}
 use Rattle.records.specs.{declared.settings.Settings.Settings, declared.state.State.State, Lent.row_places, StateWords.words_of}
 use Rattle.engine.specs.{Record.held_rows}
-use Rattle.refusals.specs.{declared.verdict.Verdict.TheVariants.Fine, declared.verdict.Verdict.TheVariants.Bad, Lines.judged, Rooms.room_lines}
+use Rattle.refusals.specs.{Lines.judged, Rooms.room_lines}
 use Rattle.refusals.specs.{Settings.setting_lines}
 use Rattle.images.specs.{Layout.dump_bytes, Layout.window_of, Layout.image_of, Refused.restore_judged}
 use Rattle.dump.specs.{Order.written, Laws.Image.image_long, Laws.Image.window_short}
 use Rattle.restart.specs.{FirstWord.Unmarked, FirstWord.unmarked_refused, OrderPlan.all_written, OrderPlan.mark_stays}
+use Rattle.words.specs.declared.refusal.Refusal.TheVariants as Refusal
 
 module _ (s : Settings) (t : State) (room : List ℕ) (held : t.counts.rows_held ≤ row_places s.slots room) where
   pub size_of_image : length (image_of s t room) ≡ dump_bytes s.slots s.depth
@@ -28,7 +29,7 @@ module _ (s : Settings) (t : State) (room : List ℕ) (held : t.counts.rows_held
   pub cut : (area : List ℕ) → dump_bytes s.slots s.depth ≤ length area → Unmarked area → (n : ℕ)
       → let size = dump_bytes s.slots s.depth in
       let found = take size (written (image_of s t room) area 0 n) in
-      (n < size → (rows : List ℕ) → judged (room_lines s rows) ≡ Fine → judged (setting_lines s) ≡ Fine → restore_judged s found rows ≡ Bad (refusal 19 0))
+      (n < size → (rows : List ℕ) → judged (room_lines s rows) ≡ Ok tt → judged (setting_lines s) ≡ Ok tt → restore_judged s found rows ≡ Err Refusal.Image)
       × (size ≤ n → found ≡ image_of s t room)
   cut area fits other n =
       let size = dump_bytes s.slots s.depth in

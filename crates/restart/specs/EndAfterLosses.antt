@@ -1,21 +1,21 @@
 -- FINISH AFTER LOSSES. A finish measures the points and trades of its own life. Those of the whole run are the figures over all lives' points and trades, one
 -- after another, with the last point of all as finish leaves it: it stands in this life's books where a bar was taken in it, and else in those kept from
 -- before.
-use Rattle.std.specs.Prelude.{ℕ, suc, ◌+◌, ◌-◌, ◌*◌, ◌/◌, ◌≤◌, ◌≡◌, refl, List, [], ◌∷◌, ◌++◌, Float, length, set}
+use Rattle.std.specs.Prelude.{ℕ, suc, ◌+◌, ◌-◌, ◌*◌, ◌/◌, ◌≤◌, ◌≡◌, refl, List, [], ◌∷◌, ◌++◌, Float, length, set, None, Ok, Option, Some}
 use Rattle.words.specs.Prelude.{flat_map}
 use Rattle.words.specs.Prelude.{sym, ap, ◌∙◌, append_assoc, append-nil, zero-add}
 use Rattle.words.specs.Prelude.{mul-div_cancel, arith, lt-ltb, length-append, length-take-le}
 use Rattle.words.specs.{Limits.point_words, Limits.trade_words, Laws.Records.records_fit}
 use Rattle.portfolio.specs.{declared.Trade.Trade, Trade.words_of_trade}
-use Rattle.execution.specs.{declared.fills.Exit.Exit, declared.fills.Exit.TheVariants.NoExit, declared.fills.Exit.TheVariants.Exited}
 use Rattle.metrics.specs.{declared.Metrics.Metrics, Figures.metrics_of, Records.equity_of, Records.pnls_of}
 use Rattle.records.specs.{declared.settings.Settings.Settings, declared.state.State.State, Lent.Rooms}
-use Rattle.refusals.specs.{declared.verdict.Verdict.TheVariants.Fine, Judgement.finish_judged}
+use Rattle.refusals.specs.{Judgement.finish_judged}
 use Rattle.engine.specs.{Books.Point, Books.words_of_point, Books.trades_of, Books.held_points, Books.held_trades, Boxes.Sound, Finish.last_exit, Finish.remarked}
 use Rattle.engine.specs.{Finish.ended, Run.Run, Whole.Account, Whole.state_of_account, Whole.Ledger, Whole.whole_end, Whole.whole_metrics}
 use Rattle.runs.specs.{AsMeant.exit_of_account, Laws.BooksGrow.flat_append, Laws.Finishes.Closes, Laws.Finishes.end_closes, Laws.LastPoint.remarked_points}
 use Rattle.runs.specs.{Restart.no_points_lem}
 use Rattle.restart.specs.{AsIfNever.AsIfNever}
+use Rattle.portfolio.specs.{declared.Closed.Closed}
 
 -- ---- definitions
 
@@ -48,11 +48,11 @@ set_behind (x ∷ xs) ys i a =
     rw next (ap (λ (l : List ℕ). x ∷ l) (set_behind xs ys i a))
 
 -- the last point of a life is the last of all
-remarked_last : (P H : List ℕ) (k n : ℕ) (x : Exit) (close : Float) → k * point_words ≡ length P + n * point_words → 1 ≤ n
+remarked_last : (P H : List ℕ) (k n : ℕ) (x : Option Closed) (close : Float) → k * point_words ≡ length P + n * point_words → 1 ≤ n
     → P ++ remarked H n x close ≡ remarked (P ++ H) k x close
 unfolding remarked
-remarked_last P H k n NoExit close e some = refl
-remarked_last P H k n (Exited c) close e some =
+remarked_last P H k n None close e some = refl
+remarked_last P H k n (Some c) close e some =
     let here : (k - 1) * point_words + 1 ≡ length P + ((n - 1) * point_words + 1) = omega arith in
     rw (lt-ltb 0 n some, lt-ltb 0 k (omega arith), here) (sym (set_behind P H ((n - 1) * point_words + 1) _))
 
@@ -75,8 +75,8 @@ held_long s t m sound =
 -- ---- the end
 
 module _ (s : Settings) (w : Ledger) (e : Run) (points trades : List ℕ) (h : AsIfNever w e points trades) (sound : Sound s e.state e.rooms)
-    (fine : finish_judged s e.state e.rooms ≡ Fine) where
-  abbrev x : Exit
+    (fine : finish_judged s e.state e.rooms ≡ Ok tt) where
+  abbrev x : Option Closed
   x = last_exit s (state_of_account w.account)
 
   abbrev close : Float
@@ -99,7 +99,7 @@ module _ (s : Settings) (w : Ledger) (e : Run) (points trades : List ℕ) (h : A
       sym (points_long w.points) ∙ ap length (sym h.equity) ∙ length-append points H ∙ ap (λ (k : ℕ). length points + k)
       (held_long s e.state e.rooms sound) in
       ap (λ (l : List ℕ). points ++ l) closes.equity
-      ∙ ap (λ (y : Exit). points ++ remarked H n y e.state.last.close) same
+      ∙ ap (λ (y : Option Closed). points ++ remarked H n y e.state.last.close) same
       ∙ ap (λ (a : Account). points ++ remarked H n x a.last.close) h.account
       ∙ remarked_last points H (length w.points) n x close long some ∙ rw h.equity (remarked_points w.points close x)
 
@@ -110,7 +110,7 @@ module _ (s : Settings) (w : Ledger) (e : Run) (points trades : List ℕ) (h : A
       sym (append-nil points) ∙ ap (λ (l : List ℕ). points ++ l) (sym (no_points_lem e.state e.rooms none)) ∙ h.equity in
       let many : length (flat_map words_of_point w.points) / point_words ≡ length w.points =
       ap (λ (n : ℕ). n / point_words) (points_long w.points) ∙ mul-div_cancel (length w.points) {n = point_words} (omega arith) in
-      ap (λ (y : Exit). remarked points (length points / point_words) y e.state.last.close) same
+      ap (λ (y : Option Closed). remarked points (length points / point_words) y e.state.last.close) same
       ∙ ap (λ (a : Account). remarked points (length points / point_words) x a.last.close) h.account
       ∙ rw (all, many) (remarked_points w.points close x)
 

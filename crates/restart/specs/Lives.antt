@@ -1,9 +1,8 @@
 -- THE LIVES OF A BOX. A box lives from one loss of its supply to the next: it takes bars, is dumped, and is restored over rooms that it is lent then.
 -- Definitions only.
-use Rattle.std.specs.Prelude.{ℕ, ◌+◌, ◌≤◌, ◌≡◌, List, [], ◌∷◌, ◌++◌}
+use Rattle.std.specs.Prelude.{ℕ, ◌+◌, ◌≤◌, ◌≡◌, List, [], ◌∷◌, ◌++◌, Ok}
 use Rattle.words.specs.{Words.overwrite}
 use Rattle.records.specs.{declared.settings.Settings.Settings, declared.state.State.State, Lent.Lists, Lent.Rooms, Lent.rooms, Lent.row_places}
-use Rattle.refusals.specs.{declared.verdict.Verdict.TheVariants.Fine}
 use Rattle.engine.specs.{Books.held_points, Books.held_trades, Boxes.Alike, Boxes.Sound, Run.Run, Run.run_over, Whole.account_of}
 use Rattle.images.specs.{Layout.image_of, Reading.state_in, Reading.window_in}
 
@@ -52,7 +51,7 @@ all_trades s ls t m (l ∷ lives) =
 -- A life that begins with the box (t, m): it took all of its bars, the restore is lent the whole image of what they came to, and the row room that it
 -- is lent has places for D rows.
 pub record LifeOf (s : Settings) (ls : Lists) (t : State) (m : Rooms) (l : Life) : Type 0 where
-  pub fine : (run_over s ls t m l.bars).verdict ≡ Fine
+  pub fine : (run_over s ls t m l.bars).verdict ≡ Ok tt
   pub image : l.image ≡ image_of s (run_over s ls t m l.bars).state (run_over s ls t m l.bars).rooms.rows
   pub place : s.depth ≤ row_places s.slots l.rows
 
@@ -63,7 +62,7 @@ LivesOf s ls t m (l ∷ lives) = LifeOf s ls t m l × LivesOf s ls (restored_sta
 
 -- The unbroken run u took all of its bars and holds these points and trades; the box (t', m'), whose books are empty, is alike to what u left.
 pub record Survived (s : Settings) (u : Run) (t' : State) (m' : Rooms) (points trades : List ℕ) : Type 0 where
-  pub fine : u.verdict ≡ Fine
+  pub fine : u.verdict ≡ Ok tt
   pub alike : Alike s u.state u.rooms t' m'
   pub sound : Sound s t' m'
   pub no_points : t'.counts.equity_points ≡ 0

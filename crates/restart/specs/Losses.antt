@@ -1,10 +1,10 @@
 -- ANY NUMBER OF LOSSES: after any number of lives a box is alike to the one that was never without supply, and what its lives held, one after another, is
 -- what that box holds.
-use Rattle.std.specs.Prelude.{ℕ, ◌≤◌, ◌≡◌, refl, List, [], ◌∷◌, ◌++◌, length}
+use Rattle.std.specs.Prelude.{ℕ, ◌≤◌, ◌≡◌, refl, List, [], ◌∷◌, ◌++◌, length, Ok}
 use Rattle.words.specs.Prelude.{sym, ap, subst, ◌∙◌, append_assoc, append-nil, arith}
 use Rattle.records.specs.{declared.settings.Settings.Settings, declared.state.State.State, Lent.Lists, Lent.Rooms, Lent.row_places, State.fresh_state}
 use Rattle.records.specs.{Laws.RoundTrip.Floats64}
-use Rattle.refusals.specs.{declared.verdict.Verdict.Verdict, declared.verdict.Verdict.TheVariants.Fine, Lines.judged, Settings.setting_lines, Laws.Lines.never}
+use Rattle.refusals.specs.{Lines.judged, Settings.setting_lines, Laws.Lines.never}
 use Rattle.engine.specs.{Books.held_points, Books.held_trades, Boxes.NotFull, Boxes.Sound, Laws.Runs.run_none, Laws.Runs.fine_took_all, Run.Run, Run.run_over}
 use Rattle.runs.specs.{RunOn.joined_run, RunOn.run_on, RunOn.run_over_lem, Laws.TwoRuns.fresh_sound, Laws.TwoRuns.run_sound, OtherBooks.SameFromHere}
 use Rattle.runs.specs.{OtherBooks.books_do_not_matter, Restart.Restarted, Restart.restarted_alike, Restart.restarted_sound, Restart.no_points_lem}
@@ -12,6 +12,7 @@ use Rattle.runs.specs.{Restart.no_trades_lem, WholeHistory.fresh_follows}
 use Rattle.restart.specs.{Laws.Reached64.Bars64, Laws.Reached64.reached_storable, Laws.Times.Word64, Lives.Life, Lives.restored_state, Lives.restored_rooms}
 use Rattle.restart.specs.{Lives.last_state, Lives.last_rooms, Lives.all_bars, Lives.all_points, Lives.all_trades, Lives.LifeOf, Lives.LivesOf, Lives.Survived}
 use Rattle.restart.specs.{Lives.SinceLosses, Boxes.Storable, Restart.image_restarts, SameImage.same_image, SameImage.kept_alike}
+use Rattle.refusals.specs.{Lines.Verdict}
 
 -- ---- lists of bars
 
@@ -20,7 +21,7 @@ unfolding Bars64
 front_words [] b h = tt
 front_words (bar ∷ a) b h = (h.0, front_words a b h.1)
 
-fine_free : (v : Verdict) → v ≡ Fine → NotFull v
+fine_free : (v : Verdict) → v ≡ Ok tt → NotFull v
 unfolding NotFull
 fine_free v h why e n = never (sym e ∙ h)
 
@@ -82,7 +83,7 @@ joined_survived s b r t' m' ps xs h = record {
 
 -- ---- all lives
 
-module _ (s : Settings) (ls : Lists) (m : Rooms) (deep : s.depth ≤ row_places s.slots m.rows) (twelve : judged (setting_lines s) ≡ Fine)
+module _ (s : Settings) (ls : Lists) (m : Rooms) (deep : s.depth ≤ row_places s.slots m.rows) (twelve : judged (setting_lines s) ≡ Ok tt)
     (floats : Floats64 (fresh_state s)) (delay : Word64 s.delay) where
   abbrev run : List (List ℕ) → Run
   run bars = run_over s ls (fresh_state s) m bars

@@ -1,11 +1,11 @@
 -- ANY PLAN, CUT ANYWHERE: over an unmarked area a plan whose last program keeps to the first word leaves an area that is refused, or the whole image.
 -- The area may be longer than the image: a restore is lent its first bytes, as many as the image has.
-use Rattle.std.specs.Prelude.{ℕ, ◌≤◌, ◌<◌, ◌≡◌, refl, Bool, true, false, List, [], ◌∷◌, ltb, length, get_or, take}
+use Rattle.std.specs.Prelude.{ℕ, ◌≤◌, ◌<◌, ◌≡◌, refl, Bool, true, false, List, [], ◌∷◌, ltb, length, get_or, take, Ok}
 use Rattle.words.specs.Prelude.{sym, ◌∙◌, arith, ltb-true, ltb-false}
 use Rattle.words.specs.Prelude.{List·get_or-eq_default, length-take-le, get_or-take}
 use Rattle.table.specs.{Bytes.Bytes}
 use Rattle.records.specs.{declared.settings.Settings.Settings, declared.state.State.State}
-use Rattle.refusals.specs.{declared.verdict.Verdict.TheVariants.Fine, Lines.judged, Rooms.room_lines, Settings.setting_lines}
+use Rattle.refusals.specs.{Lines.judged, Rooms.room_lines, Settings.setting_lines}
 use Rattle.images.specs.{Layout.image_of, Refused.restore_judged}
 use Rattle.restart.specs.{FirstWord.Unmarked, FirstWord.RefusedOr, FirstWord.nineteen, FirstWord.whole, FirstWord.unmarked_refused}
 use Rattle.restart.specs.{FirstWord.first_word_decides, FirstWord.accepted_whole, FirstWord.above_fine, Laws.FirstBytes.image_first, Laws.Programs.Left}
@@ -41,7 +41,7 @@ module _ (s : Settings) (t : State) (room rows : List ℕ) (before : List (List 
   -- ANY PLAN, CUT ANYWHERE, over an unmarked area of the image's size or more: what stands at the image's places is refused with 19 or 20, or is the whole
   -- image; where 10 and 12 do not come first.
   pub plan_cut : length (image_of s t room) ≤ length area → Unmarked area → Plan (image_of s t room) area before last
-      → CutIn (image_of s t room) (in_order before last) area after → judged (room_lines s rows) ≡ Fine → judged (setting_lines s) ≡ Fine
+      → CutIn (image_of s t room) (in_order before last) area after → judged (room_lines s rows) ≡ Ok tt → judged (setting_lines s) ≡ Ok tt
       → let found = take (length (image_of s t room)) after in
       RefusedOr (restore_judged s found rows) found (image_of s t room)
   plan_cut fits other plan cut ten twelve = go (cut_leaves image last before area after fits plan.rest cut)
@@ -72,7 +72,7 @@ module _ (s : Settings) (t : State) (room rows : List ℕ) (before : List (List 
   pub plan_accepted : length (image_of s t room) ≤ length area → Unmarked area → Plan (image_of s t room) area before last
       → CutIn (image_of s t room) (in_order before last) area after
       → let found = take (length (image_of s t room)) after in
-      restore_judged s found rows ≡ Fine → found ≡ image_of s t room
+      restore_judged s found rows ≡ Ok tt → found ≡ image_of s t room
   plan_accepted fits other plan cut fine =
       let found = take (length (image_of s t room)) after in
       let above = above_fine s found rows fine in
@@ -95,7 +95,7 @@ neither-covers (program ∷ before) last i c n =
 -- A RETRY TOO: tried as often as one likes, a plan leaves an area that is refused, or the whole image.
 pub plan_retried : (s : Settings) (t : State) (room rows : List ℕ) (before : List (List ℕ)) (last area after : List ℕ)
     → length (image_of s t room) ≤ length area → Unmarked area → Plan (image_of s t room) area before last
-    → Tries (image_of s t room) before last area after → judged (room_lines s rows) ≡ Fine → judged (setting_lines s) ≡ Fine
+    → Tries (image_of s t room) before last area after → judged (room_lines s rows) ≡ Ok tt → judged (setting_lines s) ≡ Ok tt
     → let found = take (length (image_of s t room)) after in
     RefusedOr (restore_judged s found rows) found (image_of s t room)
 plan_retried s t room rows before last area after fits other plan (once _ _ cut) ten twelve =

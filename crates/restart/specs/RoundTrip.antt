@@ -1,11 +1,10 @@
 -- A whole image read back holds what was written: the state, with its books emptied and the rows of its window counted, and the window.
-use Rattle.std.specs.Prelude.{ℕ, ◌+◌, ◌*◌, ◌/◌, ◌%◌, ◌<◌, ◌≡◌, refl, List, [], ◌∷◌, Float, T, length}
+use Rattle.std.specs.Prelude.{ℕ, ◌+◌, ◌*◌, ◌/◌, ◌%◌, ◌<◌, ◌≡◌, refl, List, [], ◌∷◌, Float, T, length, None, Option, Some}
 use Rattle.words.specs.Prelude.{ap, ◌∙◌, mod-eq_of_lt, mod-add-div, arith, binary64, fits}
 use Rattle.words.specs.Prelude.{to_bits-lt}
 use Rattle.words.specs.{Limits.row_words, Words.word}
 use Rattle.floats.specs.{Floats.word_of}
 use Rattle.table.specs.{Bytes.u16, Bytes.u32, Bytes.u64}
-use Rattle.rules.specs.{declared.position.Entered.Entered, declared.position.Entered.TheVariants.Never, declared.position.Entered.TheVariants.Bar}
 use Rattle.execution.specs.{declared.level.OrderKind.OrderKind, declared.level.OrderKind.TheVariants.Market, declared.level.OrderKind.TheVariants.Limit}
 use Rattle.execution.specs.{declared.level.OrderKind.TheVariants.Stop, declared.level.OrderKind.TheVariants.StopLimit}
 use Rattle.records.specs.{declared.state.Order.Order, declared.state.Order.TheVariants.Idle, declared.state.Order.TheVariants.EnterLong}
@@ -66,10 +65,10 @@ limit_small (Limit x) h = omega arith
 limit_small (Stop x) h = omega arith
 limit_small (StopLimit x y) h = float_small y h.1
 
-entered_small : (e : Entered) → entered_kind e < 256
+entered_small : (e : Option ℕ) → entered_kind e < 256
 unfolding entered_kind
-entered_small Never = omega arith
-entered_small (Bar b) = omega arith
+entered_small None = omega arith
+entered_small (Some b) = omega arith
 
 -- ---- the words
 

@@ -1,10 +1,10 @@
 -- "Both sides of each edge": the starred cases 1 to 7, of the definitions themselves, as one table. Assumes nothing.
-use Rattle.std.specs.Prelude.{ℕ, ◌≡◌, refl, Bool, true, false, List, [], ◌∷◌, ◌++◌}
+use Rattle.std.specs.Prelude.{ℕ, ◌≡◌, refl, Bool, true, false, List, [], ◌∷◌, ◌++◌, None}
 use Rattle.floats.specs.{Floats.zero, Floats.abs}
 use Rattle.rows.specs.{History.history_of}
 use Rattle.table.specs.{Trees.Operand, Trees.const, Trees.price, Trees.ref, Trees.prev, Trees.arith, Trees.Condition, Trees.compare, Trees.cross, Trees.every}
 use Rattle.table.specs.{Trees.any, Trees.negated, Trees.none, Trees.reach, Trees.reach_of}
-use Rattle.rules.specs.{declared.position.PositionState.PositionState, declared.position.Entered.TheVariants.Never, Values.price_of, Values.slot_of}
+use Rattle.rules.specs.{declared.position.PositionState.PositionState, Values.price_of, Values.slot_of}
 use Rattle.rules.specs.{Values.divide, Values.combine, Values.combined, Values.tested, Values.compared, Values.crossed, Meaning.newest, Meaning.there}
 use Rattle.rules.specs.{Meaning.value, Meaning.holds, Meaning.says}
 use Rattle.std.specs.Float.Ieee as Ieee
@@ -50,7 +50,7 @@ row_absent : List ℕ
 row_absent = row 0 ++ (0 ∷ [])
 
 flat : PositionState
-flat = record { qty = zero; entered = Never; bars_seen = 1 }
+flat = record { qty = zero; entered = None; bars_seen = 1 }
 
 ask : ℕ → List ℕ → Condition → Bool
 ask K ws c = says (history_of K ws) flat c

@@ -1,12 +1,11 @@
 -- "What a rule means": operands and conditions at a bar of a history. Definitions only.
-use Rattle.std.specs.Prelude.{ℕ, zero, suc, ◌+◌, ◌-◌, Bool, true, false, not, cond, ◌&&◌, ◌||◌, ltb, eqb}
+use Rattle.std.specs.Prelude.{ℕ, zero, suc, ◌+◌, ◌-◌, Bool, true, false, not, cond, ◌&&◌, ◌||◌, ltb, eqb, Float, None, Option, Some}
 use Rattle.floats.specs.{Floats.float_of}
 use Rattle.rows.specs.{History.History}
 use Rattle.table.specs.{declared.series.Series.Series, declared.series.Series.TheVariants.Price, declared.series.Series.TheVariants.Slot, Trees.Operand}
 use Rattle.table.specs.{Trees.const, Trees.ref, Trees.price, Trees.prev, Trees.arith, Trees.extreme, Trees.Condition, Trees.Conditions, Trees.compare}
 use Rattle.table.specs.{Trees.cross, Trees.between, Trees.trend, Trees.every, Trees.any, Trees.negated, Trees.in_position, Trees.bars_since, Trees.none}
 use Rattle.table.specs.{Trees.more}
-use Rattle.rules.specs.{declared.values.Value.Value, declared.values.Value.TheVariants.Missing, declared.values.Value.TheVariants.Number}
 use Rattle.rules.specs.{declared.position.PositionState.PositionState, Values.price_of, Values.slot_of, Values.combined, Values.pick, Values.compared}
 use Rattle.rules.specs.{Values.crossed, Values.within, Values.trended, Values.held, Values.counted_since}
 
@@ -15,32 +14,32 @@ unfoldable pub newest : History → ℕ
 newest h = h.rows - 1
 
 -- "An operand at bar i, even a Const, is missing if row i does not exist."
-unfoldable pub there : History → ℕ → Value → Value
-there h i v = cond (ltb i h.rows) v Missing
+unfoldable pub there : History → ℕ → Option Float → Option Float
+there h i v = cond (ltb i h.rows) v None
 
 -- what is so many bars before bar i, or missing where there are not so many: "missing if i < n, else .. at i − n"
-abbrev pub bars_back : (ℕ → Value) → ℕ → ℕ → Value
-bars_back what n i = cond (ltb i n) Missing (what (i - n))
+abbrev pub bars_back : (ℕ → Option Float) → ℕ → ℕ → Option Float
+bars_back what n i = cond (ltb i n) None (what (i - n))
 
 -- "one child that must be a Price or a Ref" (request 8): that child at bar i
-unfoldable pub series_at : History → Series → ℕ → Value
-series_at h (Price selector) i = there h i (Number (price_of (h.word i) selector))
+unfoldable pub series_at : History → Series → ℕ → Option Float
+series_at h (Price selector) i = there h i (Some (price_of (h.word i) selector))
 series_at h (Slot slot) i = there h i (slot_of (h.word i) slot)
 
 -- over bar `oldest` and the m after it: "it starts at the oldest, and a later one takes its place only if ..", one after the other
-unfoldable pub extreme_over : History → ℕ → Series → ℕ → ℕ → Value
+unfoldable pub extreme_over : History → ℕ → Series → ℕ → ℕ → Option Float
 extreme_over h kind s oldest zero = series_at h s oldest
 extreme_over h kind s oldest (suc m) = pick kind (extreme_over h kind s oldest m) (series_at h s (oldest + suc m))
 
 -- "The answer is over the bar and the n − 1 before it, and missing if any is missing": missing too where there are not so many before it
-unfoldable pub extreme_at : History → ℕ → Series → ℕ → ℕ → Value
+unfoldable pub extreme_at : History → ℕ → Series → ℕ → ℕ → Option Float
 extreme_at h kind s n i = bars_back (λ oldest. extreme_over h kind s oldest (n - 1)) (n - 1) i
 
 -- `eval_operand`. "Prev is missing if i < n, else its operand at i − n."
-unfoldable pub value : History → Operand → ℕ → Value
-value h (const bits) i = there h i (Number (float_of bits))
+unfoldable pub value : History → Operand → ℕ → Option Float
+value h (const bits) i = there h i (Some (float_of bits))
 value h (ref slot) i = there h i (slot_of (h.word i) slot)
-value h (price selector) i = there h i (Number (price_of (h.word i) selector))
+value h (price selector) i = there h i (Some (price_of (h.word i) selector))
 value h (prev a n) i = there h i (bars_back (value h a) n i)
 value h (arith kind a b) i = combined kind (value h a i) (value h b i)
 value h (extreme kind s n) i = extreme_at h kind s n i

@@ -1,12 +1,12 @@
 -- A test that reaches back as many bars as there are rows, or more, answers no. Assumes nothing.
-use Rattle.std.specs.Prelude.{ℕ, ◌-◌, ◌≤◌, ◌<◌, ◌≡◌, refl, Bool, true, false, not, cond, ◌&&◌, ltb, leb, eqb}
+use Rattle.std.specs.Prelude.{ℕ, ◌-◌, ◌≤◌, ◌<◌, ◌≡◌, refl, Bool, true, false, not, cond, ◌&&◌, ltb, leb, eqb, None}
 use Rattle.words.specs.Prelude.{sym, true≢false, arith, ltb-true, ltb-false}
 use Rattle.words.specs.Prelude.{leb-true, leb-false, eqb-false}
 use Rattle.rows.specs.{History.History}
 use Rattle.table.specs.{Trees.Operand, Trees.const, Trees.ref, Trees.price, Trees.prev, Trees.arith as sums, Trees.extreme, Trees.reach, Trees.Condition}
 use Rattle.table.specs.{Trees.compare, Trees.cross, Trees.between, Trees.trend, Trees.every, Trees.any, Trees.negated, Trees.in_position, Trees.bars_since}
 use Rattle.table.specs.{Trees.reach_of, Silent.is_test}
-use Rattle.rules.specs.{declared.position.PositionState.PositionState, declared.values.Value.TheVariants.Missing, Values.combined, Values.compared}
+use Rattle.rules.specs.{declared.position.PositionState.PositionState, Values.combined, Values.compared}
 use Rattle.rules.specs.{Values.crossed, Values.within, Values.trended, Meaning.newest, Meaning.there, Meaning.value, Meaning.holds, Meaning.says}
 use Rattle.rules.specs.{Laws.Meaning.extreme_early, Laws.Meaning.past, Laws.Missing.missing_there, Laws.Missing.both_late, Laws.Missing.compared_late}
 use Rattle.rules.specs.{Laws.Missing.trended_late, Laws.Missing.within_low, Laws.Missing.within_high, Laws.Missing.within_value}
@@ -14,30 +14,30 @@ use Rattle.rules.specs.{Laws.Missing.crossed_first, Laws.Missing.crossed_second}
 
 -- ---- an operand that reaches back beyond bar 0 is missing
 
-far : (h : History) (a : Operand) (i : ℕ) → i < reach a → value h a i ≡ Missing
+far : (h : History) (a : Operand) (i : ℕ) → i < reach a → value h a i ≡ None
 unfolding value reach
 far h (const bits) i l = absurd (omega arith)
 far h (ref slot) i l = absurd (omega arith)
 far h (price selector) i l = absurd (omega arith)
 far h (prev a n) i l = go (λ k. far h a (i - n) k) (ltb i n) refl
   where
-    go : (i - n < reach a → value h a (i - n) ≡ Missing) → (b : Bool) → ltb i n ≡ b → there h i (cond b Missing (value h a (i - n))) ≡ Missing
+    go : (i - n < reach a → value h a (i - n) ≡ None) → (b : Bool) → ltb i n ≡ b → there h i (cond b None (value h a (i - n))) ≡ None
     go below true e = missing_there h i
     go below false e = rw (below (omega (arith, ltb-false i n e))) (missing_there h i)
 far h (extreme k s n) i l = extreme_early h k s n i l
 far h (sums k a b) i l = go (λ m. far h a i m) (λ m. far h b i m) (ltb i (reach a)) refl
   where
-    go : (i < reach a → value h a i ≡ Missing) → (i < reach b → value h b i ≡ Missing) → (t : Bool) → ltb i (reach a) ≡ t
-        → combined k (value h a i) (value h b i) ≡ Missing
+    go : (i < reach a → value h a i ≡ None) → (i < reach b → value h b i ≡ None) → (t : Bool) → ltb i (reach a) ≡ t
+        → combined k (value h a i) (value h b i) ≡ None
     go left right true e = rw (left (ltb-true i (reach a) e)) (unfold combined in refl)
     go left right false e = rw (right (omega (arith, ltb-false i (reach a) e))) (both_late k (value h a i))
 
 -- at the newest bar, where there are no more rows than it reaches back
-gone : (h : History) (a : Operand) → h.rows ≤ reach a → value h a (newest h) ≡ Missing
+gone : (h : History) (a : Operand) → h.rows ≤ reach a → value h a (newest h) ≡ None
 unfolding newest
 gone h a l = go (ltb 0 h.rows) refl
   where
-    go : (b : Bool) → ltb 0 h.rows ≡ b → value h a (h.rows - 1) ≡ Missing
+    go : (b : Bool) → ltb 0 h.rows ≡ b → value h a (h.rows - 1) ≡ None
     go true e = far h a (h.rows - 1) (omega (arith, ltb-true 0 h.rows e))
     go false e = past h a (h.rows - 1) (omega (arith, ltb-false 0 h.rows e))
 
@@ -86,10 +86,10 @@ module _ (h : History) (p : PositionState) where
   unfolding holds reach_of newest
   few_trend k a n l = go (ltb (h.rows - 1) n) refl
     where
-      then_missing : n ≤ h.rows - 1 → value h a (h.rows - 1 - n) ≡ Missing
+      then_missing : n ≤ h.rows - 1 → value h a (h.rows - 1 - n) ≡ None
       then_missing late = side (ltb 0 h.rows) refl
         where
-          side : (u : Bool) → ltb 0 h.rows ≡ u → value h a (h.rows - 1 - n) ≡ Missing
+          side : (u : Bool) → ltb 0 h.rows ≡ u → value h a (h.rows - 1 - n) ≡ None
           side true g = far h a (h.rows - 1 - n) (omega (arith, ltb-true 0 h.rows g))
           side false g = past h a (h.rows - 1 - n) (omega (arith, ltb-false 0 h.rows g))
 

@@ -1,10 +1,8 @@
 -- "What a rule means", the leaves: what a row, an operation, a comparison and the position give. Definitions only.
-use Rattle.std.specs.Prelude.{ℕ, ◌+◌, ◌-◌, ◌/◌, ◌%◌, ◌^◌, Bool, false, cond, ◌&&◌, List, get_or, ltb, leb, eqb, Float}
+use Rattle.std.specs.Prelude.{ℕ, ◌+◌, ◌-◌, ◌/◌, ◌%◌, ◌^◌, Bool, false, cond, ◌&&◌, List, get_or, ltb, leb, eqb, Float, None, Option, Some}
 use Rattle.words.specs.Prelude.{nan}
 use Rattle.floats.specs.{Floats.◌⊕◌, Floats.◌⊖◌, Floats.◌⊗◌, Floats.◌⊘◌, Floats.◌≺◌, Floats.◌≼◌, Floats.float_of, Floats.abs, Floats.eps, Floats.three}
 use Rattle.floats.specs.{Floats.four}
-use Rattle.rules.specs.{declared.values.Value.Value, declared.values.Value.TheVariants.Missing, declared.values.Value.TheVariants.Number}
-use Rattle.rules.specs.{declared.position.Entered.Entered, declared.position.Entered.TheVariants.Never, declared.position.Entered.TheVariants.Bar}
 use Rattle.rules.specs.{declared.position.PositionState.PositionState}
 use Rattle.table.specs.Named as Named
 
@@ -21,8 +19,8 @@ price_of row s =
     ((float_of (row 1) ⊕ float_of (row 2) ⊕ float_of (row 3) ⊕ float_of (row 4)) ⊘ four))
 
 -- "Ref is missing where its slot is absent": where bit k of the mask, word 6, is 0.
-unfoldable pub slot_of : (ℕ → ℕ) → ℕ → Value
-slot_of row k = cond (eqb (row 6 / 2 ^ k % 2) 1) (Number (float_of (row (7 + k)))) Missing
+unfoldable pub slot_of : (ℕ → ℕ) → ℕ → Option Float
+slot_of row k = cond (eqb (row 6 / 2 ^ k % 2) 1) (Some (float_of (row (7 + k)))) None
 
 -- "Div with |divisor| < EPS is NaN."
 unfoldable pub divide : Float → Float → Float
@@ -33,10 +31,10 @@ unfoldable pub combine : ℕ → Float → Float → Float
 combine kind x y = cond (eqb kind Named.add) (x ⊕ y) (cond (eqb kind Named.sub) (x ⊖ y) (cond (eqb kind Named.mul) (x ⊗ y) (divide x y)))
 
 -- "Arithmetic is missing if either side is."
-unfoldable pub combined : ℕ → Value → Value → Value
-combined kind Missing b = Missing
-combined kind (Number x) Missing = Missing
-combined kind (Number x) (Number y) = Number (combine kind x y)
+unfoldable pub combined : ℕ → Option Float → Option Float → Option Float
+combined kind None b = None
+combined kind (Some x) None = None
+combined kind (Some x) (Some y) = Some (combine kind x y)
 
 -- "a later one takes its place only if strictly greater (for Lowest, strictly less)" (request 8)
 unfoldable pub better : ℕ → Float → Float → Bool
@@ -46,10 +44,10 @@ unfoldable pub took : ℕ → Float → Float → Float
 took kind best later = cond (better kind best later) later best
 
 -- "missing if any is missing"
-unfoldable pub pick : ℕ → Value → Value → Value
-pick kind Missing later = Missing
-pick kind (Number best) Missing = Missing
-pick kind (Number best) (Number later) = Number (took kind best later)
+unfoldable pub pick : ℕ → Option Float → Option Float → Option Float
+pick kind None later = None
+pick kind (Some best) None = None
+pick kind (Some best) (Some later) = Some (took kind best later)
 
 -- "16..21 Gt, Lt, Ge, Le, Eq, Ne". "Eq is |x − y| < EPS, Ne is |x − y| ≥ EPS."
 unfoldable pub tested : ℕ → Float → Float → Bool
@@ -61,23 +59,23 @@ tested kind x y =
     (cond (eqb kind Named.eq) (abs (x ⊖ y) ≺ eps) (eps ≼ abs (x ⊖ y))))))
 
 -- "A comparison with a missing side is no."
-unfoldable pub compared : ℕ → Value → Value → Bool
-compared kind Missing b = false
-compared kind (Number x) Missing = false
-compared kind (Number x) (Number y) = tested kind x y
+unfoldable pub compared : ℕ → Option Float → Option Float → Bool
+compared kind None b = false
+compared kind (Some x) None = false
+compared kind (Some x) (Some y) = tested kind x y
 
 -- "A cross is no .. if any of its four values is missing; above is then ≤ before and > now, below is ≥ and <."
-unfoldable pub crossed : ℕ → Value → Value → Value → Value → Bool
+unfoldable pub crossed : ℕ → Option Float → Option Float → Option Float → Option Float → Bool
 crossed kind a b aBefore bBefore =
     cond (eqb kind Named.cross_above) (compared Named.le aBefore bBefore && compared Named.gt a b)
     (compared Named.ge aBefore bBefore && compared Named.lt a b)
 
 -- "Between is closed at both ends."
-unfoldable pub within : Value → Value → Value → Bool
+unfoldable pub within : Option Float → Option Float → Option Float → Bool
 within x low high = compared Named.le low x && compared Named.le x high
 
 -- "Rising compares now > then, n bars back"; Falling, the other kind, now < then.
-unfoldable pub trended : ℕ → Value → Value → Bool
+unfoldable pub trended : ℕ → Option Float → Option Float → Bool
 trended kind now then = cond (eqb kind Named.rising) (compared Named.gt now then) (compared Named.lt now then)
 
 -- "BarsSinceEntry (selector 0..4: Gt, Lt, Ge, Le, Eq; n = k)": n bars since the entry.
@@ -94,9 +92,9 @@ held qty = eps ≺ abs qty
 
 -- "Bars since entry is this bar's number less the entry bar's; a rule takes this bar's number from the position state
 -- (bars seen, this one counted, less 1)." An entry bar not below the bars seen (13) leaves 0.
-abbrev pub counted_from : ℕ → ℕ → ℕ → Entered → Bool
-counted_from selector k seen Never = false
-counted_from selector k seen (Bar bar) = bars_tested selector k (seen - 1 - bar)
+abbrev pub counted_from : ℕ → ℕ → ℕ → Option ℕ → Bool
+counted_from selector k seen None = false
+counted_from selector k seen (Some bar) = bars_tested selector k (seen - 1 - bar)
 
 -- "BarsSinceEntry is no when flat or where the state holds no entry bar."
 unfoldable pub counted_since : ℕ → ℕ → PositionState → Bool

@@ -2,11 +2,12 @@
 use Rattle.std.specs.Prelude.{ℕ, ◌+◌, ◌-◌, ◌*◌, ◌%◌, ◌≤◌, ◌<◌, ◌≡◌, List, length}
 use Rattle.words.specs.Prelude.{ap, ◌∙◌, arith, le-div_iff_mul-le, length-drop}
 use Rattle.rows.specs.{History.history_of, History.whole_rows, History.last_rows}
-use Rattle.table.specs.{declared.answer.Answer.TheVariants.Accepted, Trees.reach_of, Header.slots, Checked.checked, Reading.tree_of, declared.trees.Tree.Tree}
+use Rattle.table.specs.{Trees.reach_of, Header.slots, Checked.checked, Reading.tree_of, declared.trees.Tree.Tree}
 use Rattle.table.specs.{declared.trees.Tree.TheVariants.Entry, declared.trees.Tree.TheVariants.Exit, declared.trees.Tree.TheVariants.ShortEntry}
 use Rattle.table.specs.{declared.trees.Tree.TheVariants.ShortExit, Header.tree_number}
 use Rattle.roundtrip.specs.{Laws.Reach.rows_are}
 use Rattle.rules.specs.{declared.position.PositionState.PositionState, Answers.judged, Answers.after_check, Answers.answered, Window.window}
+use Rattle.table.specs.{Outcome.accepts}
 use Rattle.std.proofs.Math.Nat.{mul-add-mod_self_right}
 
 -- The last rows are whole where all are.
@@ -21,7 +22,7 @@ window_whole K D ws =
     rw (length-drop, same)
 
 -- "The window is D = 1 + the greatest of the four reaches": it reaches further than each tree.
-pub tree_near : (t : List ℕ) (n r : ℕ) → checked t ≡ Accepted n r → (tree : Tree) → reach_of (tree_of t (tree_number tree)) < r
+pub tree_near : (t : List ℕ) (n r : ℕ) → checked t ≡ accepts n r → (tree : Tree) → reach_of (tree_of t (tree_number tree)) < r
 tree_near t n r ok Entry = omega (arith, rows_are t n r ok)
 tree_near t n r ok Exit = omega (arith, rows_are t n r ok)
 tree_near t n r ok ShortEntry = omega (arith, rows_are t n r ok)
@@ -29,7 +30,7 @@ tree_near t n r ok ShortExit = omega (arith, rows_are t n r ok)
 
 -- THE WINDOW OF A TABLE: where D is at least the rows that the check says, a rule answers over the last D rows what it answers
 -- over all of them.
-pub window_answers : (t : List ℕ) (n r : ℕ) → checked t ≡ Accepted n r → (D : ℕ) → r ≤ D → (tree : Tree) (rows : List ℕ) (s : PositionState)
+pub window_answers : (t : List ℕ) (n r : ℕ) → checked t ≡ accepts n r → (D : ℕ) → r ≤ D → (tree : Tree) (rows : List ℕ) (s : PositionState)
     → answered t tree (last_rows (slots t) D rows) s ≡ answered t tree rows s
 unfolding answered after_check judged
 window_answers t n r ok D enough tree rows s =

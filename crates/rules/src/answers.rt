@@ -9,18 +9,10 @@ ghost use Rattle.rules.specs.Flat.{flat_condition_at};
 ghost use Rattle.rules.specs.Answers.{state_right, answered};
 
 use crate::conditions::eval_condition;
-use crate::position::{Entered, PositionState};
-use table::answer::Answer;
+use crate::position::PositionState;
 use table::trees::{Tree, tree_number};
 use words::limits::{MOST_COUNT, MOST_NESTING};
 use words::refusal::Refusal;
-
-// What a rule over rows comes to: yes or no, or a refusal's number and place.
-#[derive(Clone, Copy)]
-pub enum RuleAnswer {
-    Says(bool),
-    Refuses(Refusal),
-}
 
 // Whether the counts of a position state are in order.
 pub fn state_right(s: PositionState) -> bool
@@ -31,8 +23,8 @@ pub fn state_right(s: PositionState) -> bool
     }
     let entered = s.entered;
     match entered {
-        Entered::Never => true,
-        Entered::Bar(bar) => bar < s.bars_seen,
+        None => true,
+        Some(bar) => bar < s.bars_seen,
     }
 }
 
@@ -68,25 +60,22 @@ fn eval_tree(t: &[u8], ends: &[usize; 256], tree: u8, rows: &[u64], s: PositionS
 }
 
 // The answer of one tree of a table over rows: at the newest bar, with the position as it is.
-pub fn answer_rule(t: &[u8], tree: Tree, rows: &[u64], s: PositionState) -> RuleAnswer
+pub fn answer_rule(t: &[u8], tree: Tree, rows: &[u64], s: PositionState) -> Result<bool, Refusal>
     ensures { result ≡ answered t.now tree rows.now s }
 {
     let checked = table::check(t);
     let answer = checked.answer;
     match answer {
-        Answer::Refused(refusal) => RuleAnswer::Refuses(refusal),
-        Answer::Accepted { nodes: _, rows: _ } => {
+        Err(refusal) => Err(refusal),
+        Ok(_) => {
             let slots = table::header::slots(t) as usize;
             if rows::are_whole(rows, slots) {
                 if state_right(s) {
                     let ends = checked.ends;
-                    return RuleAnswer::Says(eval_tree(t, &ends, tree_number(tree), rows, s));
+                    return Ok(eval_tree(t, &ends, tree_number(tree), rows, s));
                 }
             }
-            RuleAnswer::Refuses(Refusal {
-                number: 13,
-                place: 0,
-            })
+            Err(Refusal::Records)
         }
     }
 }

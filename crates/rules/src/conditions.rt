@@ -1,8 +1,7 @@
 // A condition at a bar, over the flat table: `eval_condition` of the Rust and what it calls. `left` is how many levels of
 // nesting are left, the condition's own counted; it falls with each level.
-ghost use Rattle.std.specs.Prelude.{◌≡◌, cond, not, ◌&&◌, ℕ, ◌-◌, eqb, ltb};
+ghost use Rattle.std.specs.Prelude.{◌≡◌, cond, not, ◌&&◌, ℕ, ◌-◌, eqb, ltb, Float, Option};
 ghost use Rattle.rows.specs.History.{history_of};
-ghost use Rattle.rules.specs.declared.values.Value.{Value};
 ghost use Rattle.rules.specs.Values.{compared, crossed, within, trended, held};
 ghost use Rattle.rules.specs.Meaning.{value, holds};
 ghost use Rattle.rules.specs.Flat.{flat_operand_at, grow_conditions, group, flat_condition_at};
@@ -24,7 +23,7 @@ fn compare(
     bar: usize,
     left: usize,
 ) -> bool
-    ensures { (let v : ℕ → ℕ → Value = λ i at.
+    ensures { (let v : ℕ → ℕ → Option Float = λ i at.
         value (history_of slots rows.now) (flat_operand_at left t.now ends.now i) at in
         result ≡ compared kind (v a bar) (v b bar)) }
 {
@@ -45,7 +44,7 @@ fn cross(
     bar: usize,
     left: usize,
 ) -> bool
-    ensures { (let v : ℕ → ℕ → Value = λ i at.
+    ensures { (let v : ℕ → ℕ → Option Float = λ i at.
         value (history_of slots rows.now) (flat_operand_at left t.now ends.now i) at in
         result ≡ (not (eqb bar 0) && crossed kind (v a bar) (v b bar) (v a (bar - 1)) (v b (bar - 1)))) }
 {
@@ -71,7 +70,7 @@ fn between(
     bar: usize,
     left: usize,
 ) -> bool
-    ensures { (let v : ℕ → ℕ → Value = λ i at.
+    ensures { (let v : ℕ → ℕ → Option Float = λ i at.
         value (history_of slots rows.now) (flat_operand_at left t.now ends.now i) at in
         result ≡ within (v x bar) (v low bar) (v high bar)) }
 {
@@ -93,7 +92,7 @@ fn compare_prev(
     bar: usize,
     left: usize,
 ) -> bool
-    ensures { (let v : ℕ → ℕ → Value = λ i at.
+    ensures { (let v : ℕ → ℕ → Option Float = λ i at.
         value (history_of slots rows.now) (flat_operand_at left t.now ends.now i) at in
         result ≡ (not (ltb bar n) && trended kind (v a bar) (v a (bar - n)))) }
 {

@@ -1,14 +1,12 @@
 // An operand at a bar, over the flat table: `eval_operand` and `binary` of the Rust, which call each other. `left` is how
 // many levels of nesting are left, the operand's own counted; it falls with each level, so the two end on any bytes.
-ghost use Rattle.std.specs.Prelude.{◌≡◌, ℕ, ◌-◌, ◌≤◌, ◌<◌};
+ghost use Rattle.std.specs.Prelude.{◌≡◌, ℕ, ◌-◌, ◌≤◌, ◌<◌, Some};
 ghost use Rattle.rows.specs.History.{history_of};
 ghost use Rattle.rules.specs.Values.{price_of, slot_of, combined};
 ghost use Rattle.rules.specs.Meaning.{series_at, extreme_over, extreme_at, value};
-ghost use Rattle.rules.specs.declared.values.Value.TheVariants.{Number};
 ghost use Rattle.rules.specs.Flat.{flat_operand_at};
 
 use crate::shapes::OperandShape;
-use crate::values::Value;
 use crate::{shapes, values};
 use table::series::{Series, series_in};
 
@@ -21,7 +19,7 @@ fn price_of_bar(rows: &[u64], slots: usize, bar: usize, selector: u8) -> f64
 }
 
 // A slot of the row of a bar that is there.
-fn slot_of_bar(rows: &[u64], slots: usize, bar: usize, slot: u64) -> Value
+fn slot_of_bar(rows: &[u64], slots: usize, bar: usize, slot: u64) -> Option<f64>
     requires { bar < (history_of slots rows.now).rows }
     ensures { result ≡ slot_of ((history_of slots rows.now).word bar) slot }
 {
@@ -29,12 +27,12 @@ fn slot_of_bar(rows: &[u64], slots: usize, bar: usize, slot: u64) -> Value
 }
 
 // A price or a slot of the row of a bar that is there.
-fn series_of_bar(rows: &[u64], slots: usize, over: Series, bar: usize) -> Value
+fn series_of_bar(rows: &[u64], slots: usize, over: Series, bar: usize) -> Option<f64>
     requires { bar < (history_of slots rows.now).rows }
     ensures { result ≡ series_at (history_of slots rows.now) over bar }
 {
     match over {
-        Series::Price(selector) => Value::Number(price_of_bar(rows, slots, bar, selector)),
+        Series::Price(selector) => Some(price_of_bar(rows, slots, bar, selector)),
         Series::Slot(slot) => slot_of_bar(rows, slots, bar, slot),
     }
 }
@@ -55,7 +53,7 @@ fn field_of_bar(rows: &[u64], slots: usize, bar: usize, selector: u8) -> f64
 // takes 18 instructions a bar more.
 fn field_over(kind: u8, rows: &[u64], slots: usize, selector: u8, oldest: usize, bar: usize) -> f64
     requires { (oldest ≤ bar) × (bar < (history_of slots rows.now).rows) × (selector < 5) }
-    ensures { Number result ≡ extreme_over (history_of slots rows.now) kind (Series.Price selector) oldest (bar - oldest) }
+    ensures { Some result ≡ extreme_over (history_of slots rows.now) kind (Series.Price selector) oldest (bar - oldest) }
 {
     let mut best = field_of_bar(rows, slots, oldest, selector);
     for at in oldest..bar {
@@ -73,7 +71,7 @@ fn series_over(
     over: Series,
     oldest: usize,
     bar: usize,
-) -> Value
+) -> Option<f64>
     requires { (oldest ≤ bar) × (bar < (history_of slots rows.now).rows) }
     ensures { result ≡ extreme_over (history_of slots rows.now) kind over oldest (bar - oldest) }
 {
@@ -92,26 +90,26 @@ fn extreme_over(
     over: Series,
     oldest: usize,
     bar: usize,
-) -> Value
+) -> Option<f64>
     requires { (oldest ≤ bar) × (bar < (history_of slots rows.now).rows) }
     ensures { result ≡ extreme_over (history_of slots rows.now) kind over oldest (bar - oldest) }
 {
     match over {
         Series::Price(selector) if selector < 5 => {
-            Value::Number(field_over(kind, rows, slots, selector, oldest, bar))
+            Some(field_over(kind, rows, slots, selector, oldest, bar))
         }
         _ => series_over(kind, rows, slots, over, oldest, bar),
     }
 }
 
 // Highest or Lowest at a bar that is there: over that bar and the n - 1 before it.
-fn extreme_of_bar(kind: u8, rows: &[u64], slots: usize, over: Series, n: u64, bar: usize) -> Value
+fn extreme_of_bar(kind: u8, rows: &[u64], slots: usize, over: Series, n: u64, bar: usize) -> Option<f64>
     requires { bar < (history_of slots rows.now).rows }
     ensures { result ≡ extreme_at (history_of slots rows.now) kind over n bar }
 {
     let before = n.saturating_sub(1) as usize;
     if bar < before {
-        return Value::Missing;
+        return None;
     }
     extreme_over(kind, rows, slots, over, bar - before, bar)
 }
@@ -126,23 +124,23 @@ pub fn eval_operand(
     i: usize,
     bar: usize,
     left: usize,
-) -> Value
+) -> Option<f64>
     ensures { result ≡ value (history_of slots rows.now) (flat_operand_at left t.now ends.now i) bar }
 {
     if rows::row_count(rows, slots) <= bar {
-        return Value::Missing;
+        return None;
     }
     if left == 0 {
-        return Value::Number(0.0);
+        return Some(0.0);
     }
     match shapes::operand_shape(t, ends, i) {
-        OperandShape::Const(bits) => Value::Number(floats::float_of(bits)),
+        OperandShape::Const(bits) => Some(floats::float_of(bits)),
         OperandShape::Ref(slot) => slot_of_bar(rows, slots, bar, slot),
-        OperandShape::Price(selector) => Value::Number(price_of_bar(rows, slots, bar, selector)),
+        OperandShape::Price(selector) => Some(price_of_bar(rows, slots, bar, selector)),
         OperandShape::Prev(a, n) => {
             let back = n as usize;
             if bar < back {
-                return Value::Missing;
+                return None;
             }
             eval_operand(t, ends, rows, slots, a, bar - back, left - 1)
         }
@@ -151,7 +149,7 @@ pub fn eval_operand(
             let over = series_in(t, a);
             extreme_of_bar(kind, rows, slots, over, n, bar)
         }
-        OperandShape::NoOperand => Value::Number(0.0),
+        OperandShape::NoOperand => Some(0.0),
     }
 }
 
@@ -167,16 +165,16 @@ fn binary(
     b: usize,
     bar: usize,
     left: usize,
-) -> Value
-    ensures { (let v : ℕ → ℕ → Value = λ i at.
+) -> Option<f64>
+    ensures { (let v : ℕ → ℕ → Option Float = λ i at.
         value (history_of slots rows.now) (flat_operand_at left t.now ends.now i) at in
         result ≡ combined kind (v a bar) (v b bar)) }
 {
     match eval_operand(t, ends, rows, slots, a, bar, left) {
-        Value::Missing => Value::Missing,
-        Value::Number(x) => match eval_operand(t, ends, rows, slots, b, bar, left) {
-            Value::Missing => Value::Missing,
-            Value::Number(y) => Value::Number(values::combine(kind, x, y)),
+        None => None,
+        Some(x) => match eval_operand(t, ends, rows, slots, b, bar, left) {
+            None => None,
+            Some(y) => Some(values::combine(kind, x, y)),
         },
     }
 }

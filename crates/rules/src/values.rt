@@ -5,15 +5,8 @@ ghost use Rattle.floats.specs.Floats.{float_of};
 ghost use Rattle.rules.specs.Values.{words_from, price_of, slot_of, divide, tested, held, counted_since};
 ghost use Rattle.rules.specs.Values as Values;
 
-use crate::position::{Entered, PositionState};
+use crate::position::PositionState;
 use table::kinds;
-
-// What an operand is at a bar: a number, or missing.
-#[derive(Clone, Copy)]
-pub enum Value {
-    Missing,
-    Number(f64),
-}
 
 // `price` of the row that begins at word `base`, by its selector.
 pub fn price_at(rows: &[u64], base: usize, selector: u8) -> f64
@@ -40,17 +33,17 @@ pub fn field_at(rows: &[u64], base: usize, j: usize) -> f64
 }
 
 // A slot of the row that begins at word `base`, missing where its bit of the mask is 0.
-pub fn slot_at(rows: &[u64], base: usize, slot: u64) -> Value
+pub fn slot_at(rows: &[u64], base: usize, slot: u64) -> Option<f64>
     ensures { result ≡ slot_of (words_from rows.now base) slot }
 {
     let mask = words::word_from(rows, base, words::places::BAR_MASK);
     if words::limits::MOST_SLOTS as u64 <= slot {
-        return Value::Missing;
+        return None;
     }
     if (mask >> slot) % 2 == 1 {
-        Value::Number(field_at(rows, base, words::limits::ROW_FIXED + slot as usize))
+        Some(field_at(rows, base, words::limits::ROW_FIXED + slot as usize))
     } else {
-        Value::Missing
+        None
     }
 }
 
@@ -80,14 +73,14 @@ fn divided(x: f64, y: f64) -> f64
 }
 
 // An operation on two values.
-pub fn combined(kind: u8, a: Value, b: Value) -> Value
+pub fn combined(kind: u8, a: Option<f64>, b: Option<f64>) -> Option<f64>
     ensures { result ≡ Values.combined kind a b }
 {
     match a {
-        Value::Missing => Value::Missing,
-        Value::Number(x) => match b {
-            Value::Missing => Value::Missing,
-            Value::Number(y) => Value::Number(combine(kind, x, y)),
+        None => None,
+        Some(x) => match b {
+            None => None,
+            Some(y) => Some(combine(kind, x, y)),
         },
     }
 }
@@ -103,14 +96,14 @@ fn better(kind: u8, best: f64, later: f64) -> bool
 }
 
 // The best of a value and a later one: missing if either is.
-pub fn pick(kind: u8, best: Value, later: Value) -> Value
+pub fn pick(kind: u8, best: Option<f64>, later: Option<f64>) -> Option<f64>
     ensures { result ≡ Values.pick kind best later }
 {
     match best {
-        Value::Missing => Value::Missing,
-        Value::Number(x) => match later {
-            Value::Missing => Value::Missing,
-            Value::Number(y) => Value::Number(took(kind, x, y)),
+        None => None,
+        Some(x) => match later {
+            None => None,
+            Some(y) => Some(took(kind, x, y)),
         },
     }
 }
@@ -149,20 +142,20 @@ fn test(kind: u8, x: f64, y: f64) -> bool
 }
 
 // A comparison of two values: the Rust's `compare`.
-pub fn compared(kind: u8, a: Value, b: Value) -> bool
+pub fn compared(kind: u8, a: Option<f64>, b: Option<f64>) -> bool
     ensures { result ≡ Values.compared kind a b }
 {
     match a {
-        Value::Missing => false,
-        Value::Number(x) => match b {
-            Value::Missing => false,
-            Value::Number(y) => test(kind, x, y),
+        None => false,
+        Some(x) => match b {
+            None => false,
+            Some(y) => test(kind, x, y),
         },
     }
 }
 
 // A cross of a and b, now and one bar before: the Rust's `cross`.
-pub fn crossed(kind: u8, a: Value, b: Value, a_before: Value, b_before: Value) -> bool
+pub fn crossed(kind: u8, a: Option<f64>, b: Option<f64>, a_before: Option<f64>, b_before: Option<f64>) -> bool
     ensures { result ≡ Values.crossed kind a b a_before b_before }
 {
     if kind == kinds::CROSS_ABOVE {
@@ -178,7 +171,7 @@ pub fn crossed(kind: u8, a: Value, b: Value, a_before: Value, b_before: Value) -
 }
 
 // Between, closed at both ends.
-pub fn within(x: Value, low: Value, high: Value) -> bool
+pub fn within(x: Option<f64>, low: Option<f64>, high: Option<f64>) -> bool
     ensures { result ≡ Values.within x low high }
 {
     if compared(kinds::LE, low, x) {
@@ -188,7 +181,7 @@ pub fn within(x: Value, low: Value, high: Value) -> bool
 }
 
 // Rising or Falling, of a value now and n bars back: the Rust's `compare_prev`.
-pub fn trended(kind: u8, now: Value, then: Value) -> bool
+pub fn trended(kind: u8, now: Option<f64>, then: Option<f64>) -> bool
     ensures { result ≡ Values.trended kind now then }
 {
     if kind == kinds::RISING {
@@ -230,8 +223,8 @@ pub fn since_entry(selector: u8, k: u64, s: PositionState) -> bool
     if in_position(s.qty) {
         let entered = s.entered;
         match entered {
-            Entered::Never => false,
-            Entered::Bar(bar) => bars_tested(selector, k, bars_since(s.bars_seen, bar)),
+            None => false,
+            Some(bar) => bars_tested(selector, k, bars_since(s.bars_seen, bar)),
         }
     } else {
         false

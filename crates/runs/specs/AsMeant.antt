@@ -1,11 +1,11 @@
 -- A box that keeps D rows is a run that keeps everything, and whose rules are asked of what they mean.
-use Rattle.std.specs.Prelude.{ℕ, ◌≡◌, refl, List, [], ◌∷◌, ◌++◌, take}
+use Rattle.std.specs.Prelude.{ℕ, ◌≡◌, refl, List, [], ◌∷◌, ◌++◌, take, Ok}
 use Rattle.words.specs.Prelude.{flat_map}
 use Rattle.words.specs.Prelude.{sym, ap, ◌∙◌, zero-add, arith, length-append}
 use Rattle.portfolio.specs.{Trade.words_of_trade}
 use Rattle.metrics.specs.{Figures.metrics_of, Records.equity_of, Records.pnls_of}
 use Rattle.records.specs.{declared.settings.Settings.Settings, declared.state.State.State, Lent.Lists, Lent.Rooms, State.fresh_state}
-use Rattle.refusals.specs.{declared.verdict.Verdict.TheVariants.Fine, Judgement.finish_judged, Rooms.to_close}
+use Rattle.refusals.specs.{Judgement.finish_judged, Rooms.to_close}
 use Rattle.engine.specs.{Books.words_of_point, Books.trades_of, Books.held_points, Books.held_trades, Boxes.Grown, Boxes.Holds, Finish.last_exit, Finish.end_state}
 use Rattle.engine.specs.{Finish.measured, Finish.ended, Rules.rules_of, Rules.FromTable, Run.Run, Run.run_over, Whole.Account, Whole.account_of}
 use Rattle.engine.specs.{Whole.state_of_account, Whole.by_lists, Whole.by_meaning, Whole.Ledger, Whole.whole_run, Whole.whole_run_by, Whole.end_points, Whole.whole_end}
@@ -43,7 +43,7 @@ unfolding ended end_state measured held_points held_trades
 figures s t m = refl
 
 -- THE END TOO: a finish that is fine leaves the books of a whole run that has ended, and gives their figures.
-pub ends_whole : (s : Settings) (t : State) (m : Rooms) (w : Ledger) → Holds t m w → finish_judged s t m ≡ Fine
+pub ends_whole : (s : Settings) (t : State) (m : Rooms) (w : Ledger) → Holds t m w → finish_judged s t m ≡ Ok tt
     → let e = ended s t m in
     Holds e.result.state e.rooms (whole_end s w) × (e.result.metrics ≡ whole_metrics s (whole_end s w))
 unfolding whole_end whole_metrics
@@ -78,7 +78,7 @@ whole_as_meant table s ls f (bar ∷ bars) a rows = rw (taken_as_meant s a rows 
 -- A run from a fresh state that is the whole run w, and ends as it does.
 pub record IsWhole (s : Settings) (r : Run) (w : Ledger) : Type 0 where
   pub holds : Holds r.state r.rooms w
-  pub ends : finish_judged s r.state r.rooms ≡ Fine
+  pub ends : finish_judged s r.state r.rooms ≡ Ok tt
       → let e = ended s r.state r.rooms in
       Holds e.result.state e.rooms (whole_end s w) × (e.result.metrics ≡ whole_metrics s (whole_end s w))
 

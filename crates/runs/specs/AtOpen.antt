@@ -1,8 +1,8 @@
 -- MARKET ORDERS BEHAVE AS BEFORE: a run whose order kind is market is the run of the engine that knew no other orders.
-use Rattle.std.specs.Prelude.{ℕ, ◌-◌, ◌≡◌, refl, Bool, true, false, cond, List, [], ◌∷◌, ◌++◌, ltb, Float}
+use Rattle.std.specs.Prelude.{ℕ, ◌-◌, ◌≡◌, refl, Bool, true, false, cond, List, [], ◌∷◌, ◌++◌, ltb, Float, None}
 use Rattle.rows.specs.{History.History, History.history_of}
 use Rattle.portfolio.specs.{declared.Candle.Candle}
-use Rattle.execution.specs.{declared.fills.Exit.TheVariants.NoExit, declared.level.Side.Side, declared.level.Side.TheVariants.Long}
+use Rattle.execution.specs.{declared.level.Side.Side, declared.level.Side.TheVariants.Long}
 use Rattle.execution.specs.{declared.level.Side.TheVariants.Short, declared.level.OrderKind.TheVariants.Market}
 use Rattle.execution.specs.{declared.level.OrderType.TheVariants.Market as MarketType, Fills.execute_entry, Fills.is_turned_away, Level.entry_trigger}
 use Rattle.execution.specs.{Level.fee_bps, Level.long_fill, Level.short_fill, Level.level_fill}
@@ -21,7 +21,7 @@ use Rattle.runs.specs.{Laws.Orders.ordered_keeps, Laws.Orders.decided_keeps}
 unfoldable pub entered_at_open : Side → Settings → Position → Candle → History → ℕ → Filled
 entered_at_open side s p k before number =
     let e = execute_entry side k.«open» s.terms.taker_bps s.terms k p.portfolio before in
-    record { order = Idle; position = entering p e number; «exit» = NoExit; turned_away = is_turned_away e }
+    record { order = Idle; position = entering p e number; «exit» = None; turned_away = is_turned_away e }
 
 -- "Fill: a delay above 0 counts down by 1; otherwise at the open"
 unfoldable pub filled_at_open : Settings → Order → Position → Candle → History → ℕ → Filled

@@ -1,15 +1,14 @@
 -- Request 6: "The pnl keeps its meaning." The funding paid and the least favourable price decide nothing: every run has the account, the points, the
 -- first eight words of each trade and the figures of the engine before.
-use Rattle.std.specs.Prelude.{ℕ, suc, ◌/◌, ◌≡◌, refl, List, [], ◌∷◌, ◌++◌, Float, length, take}
+use Rattle.std.specs.Prelude.{ℕ, suc, ◌/◌, ◌≡◌, refl, List, [], ◌∷◌, ◌++◌, Float, length, take, None, Ok, Option, Some}
 use Rattle.words.specs.Prelude.{flat_map}
 use Rattle.words.specs.Prelude.{sym, ap, ◌∙◌, arith}
 use Rattle.floats.specs.{Floats.word_of, Floats.float_of}
 use Rattle.rows.specs.{History.history_of}
 use Rattle.portfolio.specs.{declared.Trade.Trade, Portfolio.in_position, Portfolio.equity, Trade.words_of_trade}
-use Rattle.execution.specs.{declared.fills.Exit.Exit, declared.fills.Exit.TheVariants.NoExit, declared.fills.Exit.TheVariants.Exited}
 use Rattle.metrics.specs.{Records.column, Records.pnls_of}
 use Rattle.records.specs.{declared.settings.Settings.Settings, declared.state.Position.Position, Bar.candle_of, Lent.Lists, Lent.Rooms, State.fresh_state}
-use Rattle.refusals.specs.{declared.verdict.Verdict.TheVariants.Fine, Judgement.finish_judged, Rooms.to_close}
+use Rattle.refusals.specs.{Judgement.finish_judged, Rooms.to_close}
 use Rattle.engine.specs.{Account.leaving, Account.filled, Account.intrabar, Account.charged, Books.Point, Books.words_of_point, Books.trades_of, Books.held_points}
 use Rattle.engine.specs.{Books.held_trades, Decide.state_at, Decide.order_after, Finish.last_exit, Finish.ended, Record.row_of, Run.Run, Run.run_over, Whole.Account}
 use Rattle.engine.specs.{Whole.account_of, Whole.state_of_account, Whole.Asked, Whole.by_lists, Whole.Taken, Whole.taken_by, Whole.taken, Whole.Ledger}
@@ -20,6 +19,7 @@ use Rattle.runs.specs.{Laws.Forgets.fill_forgets, Laws.Forgets.inside_same, Laws
 use Rattle.runs.specs.{Laws.Forgets.asked_forgets, Laws.Forgets.order_forgets, Laws.Forgets.exit_test, Laws.Forgets.closed_forgets}
 use Rattle.runs.specs.{Laws.Forgets.leaving_forgets, Laws.Forgets.trades_append, Laws.Forgets.trade_forgets}
 use Rattle.words.specs.Limits as Limits
+use Rattle.portfolio.specs.{declared.Closed.Closed}
 
 -- ---- a bar
 
@@ -124,10 +124,10 @@ last_forgets : (s : Settings) (a : Account) → forget_exit (last_exit s (state_
 unfolding last_exit to_close in_position forget_account forget_position forget
 last_forgets s a = exit_test (to_close (state_of_account a)) _ _ (closed_forgets a.position.portfolio _ _ _ _)
 
-end_forgets : (ps : List Point) (x : Exit) (close : Float) → end_points ps x close ≡ end_points ps (forget_exit x) close
+end_forgets : (ps : List Point) (x : Option Closed) (close : Float) → end_points ps x close ≡ end_points ps (forget_exit x) close
 unfolding end_points forget_exit equity forget
-end_forgets ps NoExit close = refl
-end_forgets ps (Exited c) close = refl
+end_forgets ps None close = refl
+end_forgets ps (Some c) close = refl
 
 trades_twice : (ts : List Trade) → forget_trades (forget_trades ts) ≡ forget_trades ts
 unfolding forget_trades forget_trade
@@ -192,7 +192,7 @@ pub record AsBefore (s : Settings) (r : Run) (v : Ledger) : Type 0 where
   pub trades : List Trade
   pub closed : held_trades r.state r.rooms ≡ flat_map words_of_trade trades
   pub eight : flat_map eight_words trades ≡ flat_map eight_words v.trades
-  pub figures : finish_judged s r.state r.rooms ≡ Fine → (ended s r.state r.rooms).result.metrics ≡ whole_metrics s (end_before s v)
+  pub figures : finish_judged s r.state r.rooms ≡ Ok tt → (ended s r.state r.rooms).result.metrics ≡ whole_metrics s (end_before s v)
 
 -- AS BEFORE: for every run from a fresh state, over the bars that it took
 pub as_before : (s : Settings) (ls : Lists) (m : Rooms) (bars : List (List ℕ))

@@ -1,8 +1,8 @@
 -- Request 6, for readers of a trade's last two words: what they come to over the bars from the entry bar on. Definitions only.
-use Rattle.std.specs.Prelude.{ℕ, ◌≡◌, ◌⊎◌, Bool, true, cond, List, [], ◌∷◌, Float}
+use Rattle.std.specs.Prelude.{ℕ, ◌≡◌, ◌⊎◌, Bool, true, cond, List, [], ◌∷◌, Float, None, Option, Some}
 use Rattle.floats.specs.{Floats.◌⊕◌, Floats.◌⊗◌, Floats.◌≼◌, Floats.finite}
 use Rattle.portfolio.specs.{Portfolio.worse}
-use Rattle.execution.specs.{declared.costs.Funding.Funding, declared.costs.Funding.TheVariants.NotSupplied, declared.costs.Funding.TheVariants.Supplied}
+use Rattle.execution.specs.{declared.costs.Funding.Funding}
 use Rattle.records.specs.{declared.settings.Settings.Settings, Bar.candle_of, Bar.funding_of}
 
 -- ---- the least favourable price
@@ -36,9 +36,9 @@ AllFinite long (bar ∷ bars) = (finite (against long bar) ≡ true) × AllFinit
 
 -- ---- the funding paid
 
-unfoldable pub paid_with : Funding → Float → Float → Float
-paid_with NotSupplied qty sum = sum
-paid_with (Supplied mark rate) qty sum = sum ⊕ qty ⊗ mark ⊗ rate
+unfoldable pub paid_with : Option Funding → Float → Float → Float
+paid_with None qty sum = sum
+paid_with (Some funding) qty sum = sum ⊕ qty ⊗ funding.mark ⊗ funding.rate
 
 -- what each bar charges a position of this quantity, added up in their order
 unfoldable pub paid_over : Settings → Float → Float → List (List ℕ) → Float

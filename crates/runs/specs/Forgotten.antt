@@ -1,10 +1,10 @@
 -- The engine before request 6: these same definitions with the two words of the open trade left out. Definitions only.
-use Rattle.std.specs.Prelude.{ℕ, List, [], ◌∷◌, ◌++◌}
+use Rattle.std.specs.Prelude.{ℕ, List, [], ◌∷◌, ◌++◌, None, Option, Some}
 use Rattle.floats.specs.{Floats.zero}
 use Rattle.portfolio.specs.{declared.Portfolio.Portfolio, declared.Trade.Trade}
-use Rattle.execution.specs.{declared.fills.Exit.Exit, declared.fills.Exit.TheVariants.NoExit, declared.fills.Exit.TheVariants.Exited}
 use Rattle.records.specs.{declared.settings.Settings.Settings, declared.state.Position.Position}
 use Rattle.engine.specs.{Record.row_of, Whole.Account, Whole.Asked, Whole.Taken, Whole.taken, Whole.Ledger, Whole.whole_end}
+use Rattle.portfolio.specs.{declared.Closed.Closed}
 
 -- ---- without the funding paid and the least favourable price
 
@@ -35,9 +35,9 @@ forget_trade t = record {
   worst = zero;
 }
 
-unfoldable pub forget_exit : Exit → Exit
-forget_exit NoExit = NoExit
-forget_exit (Exited c) = Exited (record { portfolio = forget c.portfolio; trade = forget_trade c.trade })
+unfoldable pub forget_exit : Option Closed → Option Closed
+forget_exit None = None
+forget_exit (Some c) = Some (record { portfolio = forget c.portfolio; trade = forget_trade c.trade })
 
 unfoldable pub forget_position : Position → Position
 forget_position p = record { portfolio = forget p.portfolio; entered = p.entered; extreme = p.extreme }

@@ -1,20 +1,17 @@
 -- Request 7. "the closing fee at finish reaches the trade but not the equity": after a finish nothing is missing any more, and a second
 -- finish changes nothing.
-use Rattle.std.specs.Prelude.{ℕ, ◌+◌, ◌-◌, ◌*◌, ◌≤◌, ◌<◌, ◌≡◌, refl, Bool, true, false, ◌&&◌, List, [], ◌∷◌, ◌++◌, ltb, leb, length, take, drop, get_or}
+use Rattle.std.specs.Prelude.{ℕ, ◌+◌, ◌-◌, ◌*◌, ◌≤◌, ◌<◌, ◌≡◌, refl, Bool, true, false, ◌&&◌, List, [], ◌∷◌, ◌++◌, ltb, leb, length, take, drop, get_or, Err, None, Ok}
 use Rattle.words.specs.Prelude.{◌∙◌, append_assoc, le_of_lt, arith}
 use Rattle.words.specs.Prelude.{ltb-false, lt-ltb, le-leb, length-take-le, get_or-append-add, get_or-set_same}
 use Rattle.words.specs.{Words.overwrite, Laws.Overwrite.overwrite_fits, Laws.Overwrite.overwrite-length}
-use Rattle.rules.specs.{declared.position.Entered.TheVariants.Never}
 use Rattle.floats.specs.{Floats.word_of}
 use Rattle.portfolio.specs.{Portfolio.fresh, Portfolio.in_position, Portfolio.equity}
-use Rattle.execution.specs.{declared.fills.Exit.TheVariants.NoExit}
 use Rattle.metrics.specs.{declared.Metrics.Metrics, Figures.metrics_of, Records.equity_of, Records.pnls_of}
 use Rattle.records.specs.{declared.settings.Settings.Settings, declared.state.State.State, Lent.Lists, Lent.Rooms, Lent.row_places, Lent.point_places}
 use Rattle.records.specs.{Lent.trade_places, State.fresh_state}
-use Rattle.refusals.specs.{declared.verdict.Verdict.Verdict, declared.verdict.Verdict.TheVariants.Fine, declared.verdict.Verdict.TheVariants.Bad}
 use Rattle.refusals.specs.{Judgement.finish_lines, Judgement.finish_judged, Lines.judged, Laws.Lines.and_true, Laws.Lines.first_holds, Laws.Lines.below_fine}
 use Rattle.refusals.specs.{Laws.Lines.both_fine, Rooms.room_lines, Rooms.state_lines, Rooms.to_close, Rooms.close_lines, Settings.setting_lines}
-use Rattle.engine.specs.{declared.answer.Ended.Ended, declared.answer.Finished.TheVariants.Done, Account.leaving, Books.words_of_point, Books.booked}
+use Rattle.engine.specs.{declared.answer.Ended.Ended, Account.leaving, Books.words_of_point, Books.booked}
 use Rattle.engine.specs.{Books.marked, Books.held_points, Books.held_trades, Finish.last_exit, Finish.remarked, Finish.end_state, Finish.measured, Finish.ended}
 use Rattle.engine.specs.{Finish.concluded, Finish.finish_of, Laws.Lengths.booked_fits, Laws.Runs.run_keeps, Laws.Verdict.verdict_fine, Run.Run, Run.run_over}
 use Rattle.engine.specs.{Step.With, Step.stepped, Step.step_verdict}
@@ -22,13 +19,15 @@ use Rattle.runs.specs.{AsMeant.figures, Laws.Finishes.close_place, Laws.LastPoin
 use Rattle.std.specs.Float.Ieee as Ieee
 use Rattle.words.specs.Limits as Limits
 use Rattle.floats.specs.Floats as Floats
+use Rattle.engine.specs.{Ended.ended}
+use Rattle.refusals.specs.{Lines.Verdict}
 
 -- what a finish that is not refused gives
-finish_gives : (v : Verdict) (t : State) (m : Rooms) (done : With Ended) (u : State) (f : Metrics) → (concluded v t m done).result ≡ Done u f
-    → (v ≡ Fine) × (u ≡ done.result.state) × (f ≡ done.result.metrics) × ((concluded v t m done).rooms ≡ done.rooms)
+finish_gives : (v : Verdict) (t : State) (m : Rooms) (done : With Ended) (u : State) (f : Metrics) → (concluded v t m done).result ≡ ended u f
+    → (v ≡ Ok tt) × (u ≡ done.result.state) × (f ≡ done.result.metrics) × ((concluded v t m done).rooms ≡ done.rooms)
 unfolding concluded
-finish_gives (Bad why) t m done u f e = absurd (let z : ◌≡◌ {A = ℕ} 0 1 = cc in omega arith)
-finish_gives Fine t m done u f e = (refl, cc, cc, refl)
+finish_gives (Err why) t m done u f e = absurd (let z : ◌≡◌ {A = ℕ} 0 1 = cc in omega arith)
+finish_gives (Ok tt) t m done u f e = (refl, cc, cc, refl)
 
 -- ---- nothing is missing
 
@@ -59,7 +58,7 @@ second_word room n a b h =
     (rw long at (get_or-append-add (take at room) ((a ∷ b ∷ []) ++ drop (at + 2) room) 1 0))
 
 -- the step marks what the account is worth
-step_marked : (s : Settings) (ls : Lists) (t : State) (m : Rooms) (bar : List ℕ) → step_verdict s t bar m ls ≡ Fine
+step_marked : (s : Settings) (ls : Lists) (t : State) (m : Rooms) (bar : List ℕ) → step_verdict s t bar m ls ≡ Ok tt
     → WorthMarked (stepped s t bar m ls).result (stepped s t bar m ls).rooms
 unfolding stepped marked words_of_point
 step_marked s ls t m bar fine =
@@ -78,7 +77,7 @@ closed_flat : (s : Settings) (t : State) → to_close t ≡ true → in_position
 unfolding last_exit leaving
 closed_flat s t e = rw e (closed_is_flat _ _ _ _ _)
 
-closed_never : (s : Settings) (t : State) → to_close t ≡ true → (leaving t.position (last_exit s t)).entered ≡ Never
+closed_never : (s : Settings) (t : State) → to_close t ≡ true → (leaving t.position (last_exit s t)).entered ≡ None
 unfolding last_exit leaving
 closed_never s t e = rw e
 
@@ -89,7 +88,7 @@ unfolding ended end_state last_exit leaving remarked
 closed_worth s t m places e h = rw (e, lt-ltb 0 _ h) (get_or-set_same m.equity _ _ 0 (omega arith))
 
 -- where it closes none, there is no exit
-not_closing : (s : Settings) (t : State) → to_close t ≡ false → last_exit s t ≡ NoExit
+not_closing : (s : Settings) (t : State) → to_close t ≡ false → last_exit s t ≡ None
 unfolding last_exit
 not_closing s t e = rw e
 
@@ -137,7 +136,7 @@ pub record Settled (s : Settings) (u : State) (n : Rooms) (f : Metrics) : Type 0
 pub nothing_missing : (s : Settings) (ls : Lists) (m : Rooms) (bars : List (List ℕ)) (u : State) (f : Metrics)
     → let r = run_over s ls (fresh_state s) m bars in
     let d = finish_of s r.state r.rooms in
-    d.result ≡ Done u f → Settled s u d.rooms f
+    d.result ≡ ended u f → Settled s u d.rooms f
 unfolding finish_of
 nothing_missing s ls m bars u f e =
     let r : Run = run_over s ls (fresh_state s) m bars in
@@ -164,7 +163,7 @@ module _ (s : Settings) (t : State) (m : Rooms) where
   ended_again = unclosed s _ _ none_to_close ∙ (unfold ended end_state in refl)
 
 -- what a fine state counts, but for its trades, is below the limit and in its rooms
-counts_fine_lem : (s : Settings) (t : State) (m : Rooms) → judged (state_lines s t m) ≡ Fine
+counts_fine_lem : (s : Settings) (t : State) (m : Rooms) → judged (state_lines s t m) ≡ Ok tt
     → ((leb t.counts.bars_seen Limits.most_count && leb t.counts.rows_held Limits.most_count
     && leb t.counts.equity_points Limits.most_count) ≡ true)
     × ((leb t.counts.rows_held (row_places s.slots m.rows) && leb t.counts.equity_points (point_places m.equity)) ≡ true)
@@ -172,11 +171,11 @@ unfolding state_lines
 counts_fine_lem s t m h = let first = first_holds _ _ h in ((and_true _ _ first.0).0, (and_true _ _ (first_holds _ _ first.1).0).0)
 
 -- a state that has lost its position, and has a place for its trades, is as fine as the one before
-state_again : (s : Settings) (t u : State) (m n : Rooms) → judged (state_lines s t m) ≡ Fine
+state_again : (s : Settings) (t u : State) (m n : Rooms) → judged (state_lines s t m) ≡ Ok tt
     → u.counts.bars_seen ≡ t.counts.bars_seen → u.counts.rows_held ≡ t.counts.rows_held
     → u.counts.equity_points ≡ t.counts.equity_points → u.counts.trades ≤ Limits.most_count → u.counts.trades ≤ trade_places n.trades
-    → n.rows ≡ m.rows → point_places n.equity ≡ point_places m.equity → u.position.entered ≡ Never
-    → judged (state_lines s u n) ≡ Fine
+    → n.rows ≡ m.rows → point_places n.equity ≡ point_places m.equity → u.position.entered ≡ None
+    → judged (state_lines s u n) ≡ Ok tt
 state_again s t u m n h seen held points few place rows same never =
     let fine = counts_fine_lem s t m h in
     unfold state_lines judged in
@@ -193,8 +192,8 @@ state_again s t u m n h seen held points few place rows same never =
       never,
     )
 
-closed_again : (s : Settings) (t : State) (m : Rooms) → finish_judged s t m ≡ Fine → t.counts.trades < Limits.most_count → to_close t ≡ true
-    → finish_judged s (ended s t m).result.state (ended s t m).rooms ≡ Fine
+closed_again : (s : Settings) (t : State) (m : Rooms) → finish_judged s t m ≡ Ok tt → t.counts.trades < Limits.most_count → to_close t ≡ true
+    → finish_judged s (ended s t m).result.state (ended s t m).rooms ≡ Ok tt
 unfolding finish_judged finish_lines close_lines ended end_state
 closed_again s t m fine few closes =
     let rooms = both_fine (room_lines s m.rows) _ fine in
@@ -210,18 +209,18 @@ closed_again s t m fine few closes =
     (rw (remarked-length m.equity t.counts.equity_points t.last.close (last_exit s t))) (closed_never s t closes))
     ∙ (unfold judged in rw (none_to_close s t m))
 
-judged_again : (s : Settings) (t : State) (m : Rooms) → finish_judged s t m ≡ Fine → t.counts.trades < Limits.most_count
-    → finish_judged s (ended s t m).result.state (ended s t m).rooms ≡ Fine
+judged_again : (s : Settings) (t : State) (m : Rooms) → finish_judged s t m ≡ Ok tt → t.counts.trades < Limits.most_count
+    → finish_judged s (ended s t m).result.state (ended s t m).rooms ≡ Ok tt
 judged_again s t m fine few = go (to_close t) refl
   where
-    go : (b : Bool) → to_close t ≡ b → finish_judged s (ended s t m).result.state (ended s t m).rooms ≡ Fine
+    go : (b : Bool) → to_close t ≡ b → finish_judged s (ended s t m).result.state (ended s t m).rooms ≡ Ok tt
     go true h = closed_again s t m fine few h
     go false h = rw (unclosed s t m h) fine
 
 -- A SECOND FINISH changes nothing and gives the same figures, where fewer than 4,294,967,295 trades were counted before the first.
 pub finish_twice : (s : Settings) (t : State) (m : Rooms) (u : State) (f : Metrics) → t.counts.trades < Limits.most_count
     → let d = finish_of s t m in
-    d.result ≡ Done u f → finish_of s u d.rooms ≡ record { result = Done u f; rooms = d.rooms }
+    d.result ≡ ended u f → finish_of s u d.rooms ≡ record { result = ended u f; rooms = d.rooms }
 unfolding finish_of
 finish_twice s t m u f few e =
     let d = finish_gives (finish_judged s t m) t m (ended s t m) u f e in

@@ -1,5 +1,5 @@
 -- Whole lots: with a lot of 0 no bar is refused with 16 and every run is what it was, and with any other what is entered is k·lot.
-use Rattle.std.specs.Prelude.{ℕ, ◌≡◌, refl, true, false, List, [], ◌∷◌, ◌++◌, ◌⊎◌, Float}
+use Rattle.std.specs.Prelude.{ℕ, ◌≡◌, refl, true, false, List, [], ◌∷◌, ◌++◌, ◌⊎◌, Float, Err, Ok}
 use Rattle.words.specs.Prelude.{sym, ◌∙◌, inl, inr}
 use Rattle.floats.specs.{Floats.zero}
 use Rattle.rows.specs.{History.History, History.history_of}
@@ -10,13 +10,13 @@ use Rattle.execution.specs.{Fills.execute_entry, Level.fee_bps, RustEntry.rust_e
 use Rattle.execution.specs.{WholeLots.entered-in_lots}
 use Rattle.records.specs.{declared.settings.Settings.Settings, declared.state.Order.Order, declared.state.Order.TheVariants.Idle}
 use Rattle.records.specs.{declared.state.Position.Position, declared.state.State.State, Bar.candle_of, Lent.Lists, Lent.Rooms}
-use Rattle.refusals.specs.{declared.verdict.Verdict.Verdict, declared.verdict.Verdict.TheVariants.Fine, declared.verdict.Verdict.TheVariants.Bad}
 use Rattle.refusals.specs.{Judgement.step_judged, Lines.judged}
 use Rattle.engine.specs.{declared.account.Due.Due, declared.account.Due.TheVariants.Waits, declared.account.Due.TheVariants.Enters}
 use Rattle.engine.specs.{declared.account.Due.TheVariants.Leaves, declared.account.Filled.Filled, Account.waiting, Account.entering, Account.entry_filled}
 use Rattle.engine.specs.{Account.exit_filled, Account.due_of, Account.done_of, Account.filled, Laws.Verdict.handed_bad, Laws.Verdict.handed_fine, Record.row_of}
 use Rattle.engine.specs.{Step.size_lines, Step.step_verdict, Whole.Account, Whole.Asked, Whole.taken_by, Whole.taken, Whole.whole_run_by, Whole.whole_run}
 use Rattle.std.specs.Float.Ieee as Ieee
+use Rattle.refusals.specs.{Lines.Verdict}
 
 -- ---- the engine before: entries as the Rust has them, with no lots
 
@@ -43,7 +43,7 @@ module _ (s : Settings) (none : Ieee.eq s.terms.lot zero ≡ true) where
   unfolding filled
   fill_taken o p k h number = done_taken (due_of o k) p k h number
 
-  sizes_fine : (t : State) (bar : List ℕ) (m : Rooms) → judged (size_lines s t bar m) ≡ Fine
+  sizes_fine : (t : State) (bar : List ℕ) (m : Rooms) → judged (size_lines s t bar m) ≡ Ok tt
   unfolding size_lines judged
   sizes_fine t bar m = rw (fill_taken t.order t.position _ _ t.counts.bars_seen)
 
@@ -52,8 +52,8 @@ module _ (s : Settings) (none : Ieee.eq s.terms.lot zero ≡ true) where
   no_lot_no_sixteen t bar m ls = go (step_judged s t bar m ls) refl
     where
       go : (v : Verdict) → step_judged s t bar m ls ≡ v → step_verdict s t bar m ls ≡ step_judged s t bar m ls
-      go Fine e = handed_fine s t bar m ls e ∙ sizes_fine t bar m ∙ sym e
-      go (Bad why) e = handed_bad s t bar m ls why e ∙ sym e
+      go (Ok tt) e = handed_fine s t bar m ls e ∙ sizes_fine t bar m ∙ sym e
+      go (Err why) e = handed_bad s t bar m ls why e ∙ sym e
 
   -- WITH A LOT OF 0 what an entry that is due comes to is what it was: the Rust's entry, and nothing is turned away.
   pub entered_as_before : (side : Side) (kind : OrderKind) (price : Float) (p : Position) (k : Candle) (h : History) (number : ℕ)

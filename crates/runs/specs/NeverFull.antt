@@ -1,33 +1,34 @@
 -- Where the equity and trade rooms have a place for every bar, and the bars are no more than 4,294,967,295, no bar is refused with 14.
-use Rattle.std.specs.Prelude.{ℕ, ◌+◌, ◌≤◌, ◌<◌, ◌≡◌, refl, Bool, true, false, cond, not, ◌&&◌, ◌||◌, List, [], ◌∷◌, ◌++◌, eqb, length}
+use Rattle.std.specs.Prelude.{ℕ, ◌+◌, ◌≤◌, ◌<◌, ◌≡◌, refl, Bool, true, false, cond, not, ◌&&◌, ◌||◌, List, [], ◌∷◌, ◌++◌, eqb, length, Err, Ok}
 use Rattle.words.specs.Prelude.{sym, ◌∙◌, arith, lt-ltb, eqb-false}
-use Rattle.words.specs.{Limits.most_count, Outcome.refusal}
+use Rattle.words.specs.{Limits.most_count}
 use Rattle.records.specs.{declared.settings.Settings.Settings, declared.state.State.State, Lent.Lists, Lent.Rooms, Lent.point_places, Lent.trade_places}
-use Rattle.refusals.specs.{declared.verdict.Verdict.Verdict, declared.verdict.Verdict.TheVariants.Fine, declared.verdict.Verdict.TheVariants.Bad}
 use Rattle.refusals.specs.{Bar.bar_lines, Judgement.run_lines, Judgement.step_lines, Laws.Lines.never, Laws.Lines.and_true, Lines.Line, Lines.judged}
 use Rattle.refusals.specs.{Lists.list_lines, Rooms.room_lines, Rooms.state_lines, Rooms.place_lines, Settings.sizing_lines, Settings.slippage_lines}
 use Rattle.refusals.specs.{Settings.risk_lines, Settings.term_lines, Settings.entry_lines, Settings.setting_lines}
 use Rattle.engine.specs.{Boxes.Sound, Boxes.NotFull, Laws.Runs.run_none, Laws.Runs.run_stops, Laws.Runs.run_takes, Run.run_over, Step.size_lines, Step.stepped}
 use Rattle.engine.specs.{Step.step_verdict}
 use Rattle.runs.specs.{Laws.Alike.step_sound, Laws.Counts.step_lengths}
+use Rattle.refusals.specs.{Lines.Verdict}
+use Rattle.words.specs.{Outcome.number_of, Outcome.place_of}
 
 -- each line has another number than 14, or holds
 unfoldable none_fourteen : List Line → Bool
 none_fourteen [] = true
-none_fourteen (l ∷ ls) = (not (eqb l.number 14) || l.ok) && none_fourteen ls
+none_fourteen (l ∷ ls) = (not (eqb (number_of l.why) 14) || l.ok) && none_fourteen ls
 
 -- then so has the refusal that they come to
 not_fourteen : (ls : List Line) → none_fourteen ls ≡ true → NotFull (judged ls)
 unfolding none_fourteen judged NotFull
 not_fourteen [] a why e n = never (sym e)
 not_fourteen (l ∷ ls) a why e n =
-    let both = and_true (not (eqb l.number 14) || l.ok) (none_fourteen ls) a in
-    by_line (eqb l.number 14) l.ok (judged ls) refl both.0 (λ h. not_fourteen ls both.1 why h n) e
+    let both = and_true (not (eqb (number_of l.why) 14) || l.ok) (none_fourteen ls) a in
+    by_line (eqb (number_of l.why) 14) l.ok (judged ls) refl both.0 (λ h. not_fourteen ls both.1 why h n) e
   where
-    by_line : (is ok : Bool) (v : Verdict) → eqb l.number 14 ≡ is → (not is || ok) ≡ true → (v ≡ Bad why → ⊥)
-        → cond ok v (Bad (refusal l.number l.place)) ≡ Bad why → ⊥
+    by_line : (is ok : Bool) (v : Verdict) → eqb (number_of l.why) 14 ≡ is → (not is || ok) ≡ true → (v ≡ Err why → ⊥)
+        → cond ok v (Err (refusal (number_of l.why) (place_of l.why))) ≡ Err why → ⊥
     by_line is true v h a below e = below e
-    by_line false false v h a below e = let same : l.number ≡ why.number = cc in eqb-false l.number 14 h (same ∙ n)
+    by_line false false v h a below e = let same : (number_of l.why) ≡ (number_of why) = cc in eqb-false (number_of l.why) 14 h (same ∙ n)
     by_line true false v h a below e = let z : ◌≡◌ {A = ℕ} 0 1 = cc in omega arith
 
 -- the lines of places hold, and the others have other numbers
@@ -75,5 +76,5 @@ never_full s ls (bar ∷ bars) t m sound p =
     go : (v : Verdict) → step_verdict s t bar m ls ≡ v → NotFull (step_verdict s t bar m ls)
         → NotFull (run_over s ls (stepped s t bar m ls).result (stepped s t bar m ls).rooms bars).verdict
         → NotFull (run_over s ls t m (bar ∷ bars)).verdict
-    go (Bad why) e here later = rw (run_stops s ls t m bar bars why e) (rw e at here)
-    go Fine e here later = rw (run_takes s ls t m bar bars e) later
+    go (Err why) e here later = rw (run_stops s ls t m bar bars why e) (rw e at here)
+    go (Ok tt) e here later = rw (run_takes s ls t m bar bars e) later

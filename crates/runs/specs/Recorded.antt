@@ -1,26 +1,24 @@
 -- Request 6: in every run, a trade's last two words are those of the bars from its entry bar on.
-use Rattle.std.specs.Prelude.{ℕ, ◌≡◌, refl, Bool, true, false, cond, List, [], ◌∷◌, ◌++◌, Float, length, take}
+use Rattle.std.specs.Prelude.{ℕ, ◌≡◌, refl, Bool, true, false, cond, List, [], ◌∷◌, ◌++◌, Float, length, take, None, Ok, Option, Some}
 use Rattle.words.specs.Prelude.{sym, ap, ◌∙◌, append-nil, append_assoc, arith}
 use Rattle.words.specs.Prelude.{length-append}
 use Rattle.floats.specs.{Floats.◌⊗◌, Floats.◌≺◌, Floats.eps, Floats.zero}
 use Rattle.rows.specs.{History.History, History.history_of}
-use Rattle.rules.specs.{declared.position.Entered.Entered as EntryBar, declared.position.Entered.TheVariants.Bar}
 use Rattle.portfolio.specs.{declared.Candle.Candle, declared.Closed.Closed, declared.Portfolio.Portfolio, declared.Trade.Trade, Portfolio.fresh}
 use Rattle.portfolio.specs.{Portfolio.in_position, Portfolio.is_long, Portfolio.funded, Portfolio.worse, Portfolio.worsened, Portfolio.entered, Portfolio.trade_of}
 use Rattle.portfolio.specs.{Portfolio.exited, Trade.signal, Trade.end}
 use Rattle.execution.specs.{declared.fills.Entry.Entry, declared.fills.Entry.TheVariants.NoEntry, declared.fills.Entry.TheVariants.Entered}
-use Rattle.execution.specs.{declared.fills.Exit.Exit, declared.fills.Exit.TheVariants.NoExit, declared.fills.Exit.TheVariants.Exited}
-use Rattle.execution.specs.{declared.costs.Funding.Funding, declared.costs.Funding.TheVariants.NotSupplied, declared.costs.Funding.TheVariants.Supplied}
-use Rattle.execution.specs.{declared.optional.Optional.Optional, declared.lots.Quantity.Quantity, declared.lots.Quantity.TheVariants.Nothing}
+use Rattle.execution.specs.{declared.costs.Funding.Funding}
+use Rattle.execution.specs.{declared.lots.Quantity.Quantity, declared.lots.Quantity.TheVariants.Nothing}
 use Rattle.execution.specs.{declared.lots.Quantity.TheVariants.TooLarge, declared.lots.Quantity.TheVariants.Of, declared.level.Side.Side}
 use Rattle.execution.specs.{declared.level.OrderKind.OrderKind, declared.terms.Terms.Terms, declared.intrabar.Trigger.Trigger}
-use Rattle.execution.specs.{declared.intrabar.Trigger.TheVariants.Untouched, declared.intrabar.Trigger.TheVariants.At, Costs.slippage_rate, Costs.fill_price}
+use Rattle.execution.specs.{Costs.slippage_rate, Costs.fill_price}
 use Rattle.execution.specs.{Costs.fee_rate, Costs.closed, Costs.with_funding, Costs.charge_funding, Fills.direction, Fills.volatility_for, Fills.quantity}
 use Rattle.execution.specs.{Fills.probe_qty, Fills.within_volume, Fills.entry_with, Fills.execute_entry, Fills.exit_direction, Fills.execute_exit, Lots.is_too_large}
 use Rattle.execution.specs.{Lots.or_zero, Intrabar.touched, Intrabar.closed_by, Intrabar.apply_intrabar_exits, Intrabar.extreme_with}
 use Rattle.records.specs.{declared.settings.Settings.Settings, declared.state.Order.Order, declared.state.Position.Position, declared.state.State.State}
 use Rattle.records.specs.{Bar.candle_of, Bar.funding_of, Lent.Lists, Lent.Rooms, State.fresh_state}
-use Rattle.refusals.specs.{declared.verdict.Verdict.TheVariants.Fine, Laws.Lines.and_true, Rooms.to_close}
+use Rattle.refusals.specs.{Laws.Lines.and_true, Rooms.to_close}
 use Rattle.engine.specs.{declared.account.Due.Due, declared.account.Due.TheVariants.Waits, declared.account.Due.TheVariants.Enters}
 use Rattle.engine.specs.{declared.account.Due.TheVariants.Leaves, declared.account.Filled.Filled, Account.leaving, Account.facing, Account.entering}
 use Rattle.engine.specs.{Account.due_of, Account.done_of, Account.filled, Account.intrabar, Account.charged, Books.Point, Books.trades_of, Boxes.Grown}
@@ -41,12 +39,12 @@ first_time [] = 0
 first_time (bar ∷ bars) = (candle_of bar).time
 
 -- A trade that is closed on `bar`, after `bars`, of a position with the entry bar e: `since` are its bars up to the one before this, the entry bar the first.
-pub record Recorded (s : Settings) (bars : List (List ℕ)) (bar : List ℕ) (e : EntryBar) (t : Trade) : Type 0 where
+pub record Recorded (s : Settings) (bars : List (List ℕ)) (bar : List ℕ) (e : Option ℕ) (t : Trade) : Type 0 where
   pub before : List (List ℕ)
   pub since : List (List ℕ)
   pub split : bars ≡ before ++ since
   -- times may repeat, the numbers of bars do not
-  pub entry : e ≡ Bar (length before)
+  pub entry : e ≡ Some (length before)
   pub time : t.entry_time ≡ first_time (since ++ (bar ∷ []))
   -- up to and with the closing bar
   pub worst : t.worst ≡ worst_over (zero ≺ t.qty) t.entry_price (since ++ (bar ∷ []))
@@ -59,30 +57,30 @@ Each P [] = Unit {0}
 Each P (t ∷ ts) = P t × Each P ts
 
 -- an open position that has been through `since`, and whose least favourable price has been through what `seen` makes of them
-record Through (seen : List (List ℕ) → List (List ℕ)) (s : Settings) (bars : List (List ℕ)) (bar : List ℕ) (e : EntryBar) (p : Portfolio) : Type 0 where
+record Through (seen : List (List ℕ) → List (List ℕ)) (s : Settings) (bars : List (List ℕ)) (bar : List ℕ) (e : Option ℕ) (p : Portfolio) : Type 0 where
   before : List (List ℕ)
   since : List (List ℕ)
   split : bars ≡ before ++ since
-  entry : e ≡ Bar (length before)
+  entry : e ≡ Some (length before)
   time : p.entry_time ≡ first_time (since ++ (bar ∷ []))
   worst : p.worst ≡ worst_over (zero ≺ p.qty) p.entry_price (seen since)
   funding : p.funding ≡ paid_over s p.qty zero since
 
 -- as a bar finds it
-abbrev Met : Settings → List (List ℕ) → List ℕ → EntryBar → Portfolio → Type 0
+abbrev Met : Settings → List (List ℕ) → List ℕ → Option ℕ → Portfolio → Type 0
 Met s bars bar = Through (λ since. since) s bars bar
 
 -- and when its least favourable price has taken the bar
-abbrev Taking : Settings → List (List ℕ) → List ℕ → EntryBar → Portfolio → Type 0
+abbrev Taking : Settings → List (List ℕ) → List ℕ → Option ℕ → Portfolio → Type 0
 Taking s bars bar = Through (λ since. since ++ (bar ∷ [])) s bars bar
 
 -- and between two bars: `bars` are all so far
-record Open (s : Settings) (bars : List (List ℕ)) (e : EntryBar) (p : Portfolio) : Type 0 where
+record Open (s : Settings) (bars : List (List ℕ)) (e : Option ℕ) (p : Portfolio) : Type 0 where
   before : List (List ℕ)
   first : List ℕ
   rest : List (List ℕ)
   split : bars ≡ before ++ (first ∷ rest)
-  entry : e ≡ Bar (length before)
+  entry : e ≡ Some (length before)
   time : p.entry_time ≡ first_time (first ∷ rest)
   worst : p.worst ≡ worst_over (zero ≺ p.qty) p.entry_price (first ∷ rest)
   funding : p.funding ≡ paid_over s p.qty zero (first ∷ rest)
@@ -105,20 +103,20 @@ paid_more s qty sum (b ∷ bars) bar =
 
 -- ---- trades
 
-exit_of : (b : Bool) (x : Exit) (P : Trade → Type 0) → Each P (trades_of x) → Each P (trades_of (cond b x NoExit))
+exit_of : (b : Bool) (x : Option Closed) (P : Trade → Type 0) → Each P (trades_of x) → Each P (trades_of (cond b x None))
 unfolding Each trades_of
 exit_of true x P h = h
 exit_of false x P h = tt
 
-one_each : (c : Closed) (P : Trade → Type 0) → P c.trade → Each P (trades_of (Exited c))
+one_each : (c : Closed) (P : Trade → Type 0) → P c.trade → Each P (trades_of (Some c))
 unfolding Each trades_of
 one_each c P h = (h, tt)
 
-trigger_of : (t : Trigger) (k : Candle) (terms : Terms) (q : Portfolio) (P : Trade → Type 0)
+trigger_of : (t : Option Trigger) (k : Candle) (terms : Terms) (q : Portfolio) (P : Trade → Type 0)
     → ((price : Float) (reason : ℕ) → P (closed q price k.time terms.taker_bps reason).trade) → Each P (trades_of (closed_by t k terms q))
 unfolding closed_by Each trades_of
-trigger_of Untouched k terms q P h = tt
-trigger_of (At price reason) k terms q P h = (h price reason, tt)
+trigger_of None k terms q P h = tt
+trigger_of (Some trigger) k terms q P h = (h trigger.price trigger.reason, tt)
 
 -- of an exit by order, and of one inside a bar
 by_order_each : (reason : ℕ) (raw : Float) (terms : Terms) (k : Candle) (q : Portfolio) (P : Trade → Type 0)
@@ -127,13 +125,13 @@ unfolding execute_exit
 by_order_each reason raw terms k q P h =
     let price : Float = fill_price raw (exit_direction q) (slippage_rate terms.slippage q.qty k.volume) in
     let c : Closed = closed q price k.time terms.taker_bps reason in
-    exit_of (in_position q) (Exited c) P (one_each c P (h price))
+    exit_of (in_position q) (Some c) P (one_each c P (h price))
 
 inside_each : (k : Candle) (terms : Terms) (q : Portfolio) (e : Float) (P : Trade → Type 0)
     → ((price : Float) (reason : ℕ) → P (closed q price k.time terms.taker_bps reason).trade) → Each P (trades_of (apply_intrabar_exits k terms q e))
 unfolding apply_intrabar_exits
 inside_each k terms q e P h =
-    let t : Trigger = touched k terms.risk q e in
+    let t : Option Trigger = touched k terms.risk q e in
     exit_of (in_position q) (closed_by t k terms q) P (trigger_of t k terms q P h)
 
 -- a flat position stays as it is
@@ -150,13 +148,13 @@ by_side true h k = h refl
 by_side false h k = k refl
 
 -- a position that is open after the exits inside a bar was not left
-left_open : (b : Bool) (t : Trigger) (k : Candle) (terms : Terms) (q : Position)
-    → in_position (leaving q (cond b (closed_by t k terms q.portfolio) NoExit)).portfolio ≡ true
-    → leaving q (cond b (closed_by t k terms q.portfolio) NoExit) ≡ q
+left_open : (b : Bool) (t : Option Trigger) (k : Candle) (terms : Terms) (q : Position)
+    → in_position (leaving q (cond b (closed_by t k terms q.portfolio) None)).portfolio ≡ true
+    → leaving q (cond b (closed_by t k terms q.portfolio) None) ≡ q
 unfolding leaving closed_by
 left_open false t k terms q h = refl
-left_open true Untouched k terms q h = refl
-left_open true (At price reason) k terms q h = two_sides _ h (closed_is_flat _ _ _ _ _)
+left_open true None k terms q h = refl
+left_open true (Some trigger) k terms q h = two_sides _ h (closed_is_flat _ _ _ _ _)
 
 -- ---- the fill
 
@@ -189,7 +187,7 @@ entry_begun : (side : Side) (raw bps : Float) (terms : Terms) (k : Candle) (p : 
     → execute_entry side raw bps terms k p h ≡ Entered q f → Begun k q
 unfolding execute_entry
 entry_begun side raw bps terms k p h q f e =
-    let rv : Optional = volatility_for terms.sizing h in
+    let rv : Option Float = volatility_for terms.sizing h in
     let probe : Quantity = probe_qty terms.slippage terms p.cash raw rv in
     let fill : Float = fill_price raw (direction side) (slippage_rate terms.slippage (or_zero probe) k.volume) in
     let sized : Quantity = within_volume terms (quantity terms p.cash fill rv) k.volume in
@@ -197,7 +195,7 @@ entry_begun side raw bps terms k p h q f e =
 
 module _ (s : Settings) (bars : List (List ℕ)) (bar : List ℕ) where
   -- the bar is taken
-  taking : (e : EntryBar) (p : Portfolio) → in_position p ≡ true → Met s bars bar e p → Taking s bars bar e (worsened p (candle_of bar))
+  taking : (e : Option ℕ) (p : Portfolio) → in_position p ≡ true → Met s bars bar e p → Taking s bars bar e (worsened p (candle_of bar))
   unfolding worsened is_long
   taking e p h m = rw h (record {
     before = m.before;
@@ -210,7 +208,7 @@ module _ (s : Settings) (bars : List (List ℕ)) (bar : List ℕ) where
   })
 
   -- a trade that is closed then
-  closing : (e : EntryBar) (q : Portfolio) (price : Float) (time : ℕ) (bps : Float) (reason : ℕ) → Taking s bars bar e q
+  closing : (e : Option ℕ) (q : Portfolio) (price : Float) (time : ℕ) (bps : Float) (reason : ℕ) → Taking s bars bar e q
       → Recorded s bars bar e (closed q price time bps reason).trade
   unfolding closed exited trade_of
   closing e q price time bps reason m =
@@ -263,7 +261,7 @@ module _ (s : Settings) (bars : List (List ℕ)) (bar : List ℕ) where
           before = bars;
           since = [];
           split = sym (append-nil bars);
-          entry = ap Bar n;
+          entry = ap Some n;
           time = first.2;
           worst = first.1;
           funding = first.0;
@@ -328,13 +326,13 @@ module _ (s : Settings) (bars : List (List ℕ)) (bar : List ℕ) where
 -- ---- funding
 
 -- funding changes no quantity
-charge_keeps : (on : Bool) (f : Funding) (p : Portfolio) → in_position (charge_funding on f p) ≡ in_position p
+charge_keeps : (on : Bool) (f : Option Funding) (p : Portfolio) → in_position (charge_funding on f p) ≡ in_position p
 unfolding charge_funding
 charge_keeps on f p = go on (in_position p) f
   where
-    go : (on b : Bool) (f : Funding) → in_position (cond on (cond b (with_funding f p) p) p) ≡ in_position p
-    go true true NotSupplied = unfold with_funding in refl
-    go true true (Supplied mark rate) = unfold with_funding funded in_position in refl
+    go : (on b : Bool) (f : Option Funding) → in_position (cond on (cond b (with_funding f p) p) p) ≡ in_position p
+    go true true None = unfold with_funding in refl
+    go true true (Some funding) = unfold with_funding funded in_position in refl
     go true false f = refl
     go false b f = refl
 
@@ -349,21 +347,21 @@ led [] bar = record { first = bar; rest = []; same = refl }
 led (b ∷ since) bar = record { first = b; rest = since ++ (bar ∷ []); same = refl }
 
 -- what it leaves of an open position
-record Charged (on : Bool) (f : Funding) (p q : Portfolio) : Type 0 where
+record Charged (on : Bool) (f : Option Funding) (p q : Portfolio) : Type 0 where
   time : q.entry_time ≡ p.entry_time
   qty : q.qty ≡ p.qty
   price : q.entry_price ≡ p.entry_price
   worst : q.worst ≡ p.worst
   funding : q.funding ≡ cond on (paid_with f p.qty p.funding) p.funding
 
-charge_words : (on : Bool) (f : Funding) (p : Portfolio) → in_position p ≡ true → Charged on f p (charge_funding on f p)
+charge_words : (on : Bool) (f : Option Funding) (p : Portfolio) → in_position p ≡ true → Charged on f p (charge_funding on f p)
 unfolding charge_funding with_funding funded paid_with
-charge_words true NotSupplied p h = rw h (record { time = refl; qty = refl; price = refl; worst = refl; funding = refl })
-charge_words true (Supplied mark rate) p h = rw h (record { time = refl; qty = refl; price = refl; worst = refl; funding = refl })
+charge_words true None p h = rw h (record { time = refl; qty = refl; price = refl; worst = refl; funding = refl })
+charge_words true (Some funding) p h = rw h (record { time = refl; qty = refl; price = refl; worst = refl; funding = refl })
 charge_words false f p h = record { time = refl; qty = refl; price = refl; worst = refl; funding = refl }
 
 module _ (s : Settings) (bars : List (List ℕ)) (bar : List ℕ) where
-  charging : (e : EntryBar) (p : Portfolio) → in_position p ≡ true → Taking s bars bar e p
+  charging : (e : Option ℕ) (p : Portfolio) → in_position p ≡ true → Taking s bars bar e p
       → Open s (bars ++ (bar ∷ [])) e (charge_funding s.funding (funding_of s.slots bar) p)
   charging e p h m =
       let w = charge_words s.funding (funding_of s.slots bar) p h in
@@ -379,7 +377,7 @@ module _ (s : Settings) (bars : List (List ℕ)) (bar : List ℕ) where
         funding = rw (w.funding, w.qty, ← l.same, m.funding) (sym (paid_more s p.qty zero m.since bar));
       }
 
-  meeting : (e : EntryBar) (p : Portfolio) → Open s bars e p → Met s bars bar e p
+  meeting : (e : Option ℕ) (p : Portfolio) → Open s bars e p → Met s bars bar e p
   meeting e p o = record {
     before = o.before;
     since = o.first ∷ o.rest;
@@ -457,7 +455,7 @@ pub record Adds (s : Settings) (bars : List (List ℕ)) (bar : List ℕ) (t : St
 -- IN EVERY RUN from a fresh state, each trade that a bar closes has the words of the bars from its entry bar to that bar.
 pub recorded : (s : Settings) (ls : Lists) (m : Rooms) (bars : List (List ℕ)) (bar : List ℕ)
     → let r = run_over s ls (fresh_state s) m bars in
-    step_verdict s r.state bar r.rooms ls ≡ Fine
+    step_verdict s r.state bar r.rooms ls ≡ Ok tt
     → let d = stepped s r.state bar r.rooms ls in
     Adds s (take r.done bars) bar r.state r.rooms d.result d.rooms
 unfolding taken_by
@@ -479,16 +477,16 @@ recorded s ls m bars bar fine =
 -- ---- the end
 
 -- A trade that finish closes, after `bars`, of a position with the entry bar e: finish adds no bar.
-pub record RecordedAtEnd (s : Settings) (bars : List (List ℕ)) (e : EntryBar) (t : Trade) : Type 0 where
+pub record RecordedAtEnd (s : Settings) (bars : List (List ℕ)) (e : Option ℕ) (t : Trade) : Type 0 where
   pub before : List (List ℕ)
   pub since : List (List ℕ)
   pub split : bars ≡ before ++ since
-  pub entry : e ≡ Bar (length before)
+  pub entry : e ≡ Some (length before)
   pub time : t.entry_time ≡ first_time since
   pub worst : t.worst ≡ worst_over (zero ≺ t.qty) t.entry_price since
   pub funding : t.funding ≡ paid_over s t.qty zero since
 
-closing_end : (s : Settings) (bars : List (List ℕ)) (e : EntryBar) (p : Portfolio) (price : Float) (time : ℕ) (bps : Float) (reason : ℕ) → Open s bars e p
+closing_end : (s : Settings) (bars : List (List ℕ)) (e : Option ℕ) (p : Portfolio) (price : Float) (time : ℕ) (bps : Float) (reason : ℕ) → Open s bars e p
     → RecordedAtEnd s bars e (closed p price time bps reason).trade
 unfolding closed exited trade_of
 closing_end s bars e p price time bps reason o =

@@ -1,10 +1,9 @@
 -- The engine over the whole history: a box that keeps the last D rows decides by the rows of all bars.
-use Rattle.std.specs.Prelude.{ℕ, ◌+◌, ◌≤◌, ◌≡◌, refl, List, [], ◌∷◌, ◌++◌, length, take}
+use Rattle.std.specs.Prelude.{ℕ, ◌+◌, ◌≤◌, ◌≡◌, refl, List, [], ◌∷◌, ◌++◌, length, take, Ok}
 use Rattle.words.specs.Prelude.{flat_map}
 use Rattle.words.specs.Prelude.{sym, ◌∙◌, append-nil, append_assoc, zero-mul, arith, lt-ltb}
 use Rattle.rows.specs.{Room.held_with}
 use Rattle.records.specs.{declared.settings.Settings.Settings, declared.state.State.State, Lent.Lists, Lent.Rooms, Lent.row_places, State.fresh_state}
-use Rattle.refusals.specs.{declared.verdict.Verdict.TheVariants.Fine}
 use Rattle.engine.specs.{Boxes.Grown, Boxes.Follows, Laws.Lengths.row_long, Laws.Lengths.row_fits, Laws.Runs.run_none}
 use Rattle.engine.specs.{Record.row_of, Record.held_rows, Rules.rules_of, Rules.FromTable, Run.Run, Run.run_over, Step.stepped, Step.step_verdict}
 use Rattle.engine.specs.{Whole.account_of, Whole.rows_held, Whole.by_meaning, Whole.taken, Whole.last_of, Whole.rows_of}
@@ -60,7 +59,7 @@ pub record WholeHistory (s : Settings) (ls : Lists) (m : Rooms) (bars : List (Li
       → rows_held s r.state r.rooms ≡ rows_of s (take r.done bars)
   -- The next bar that is taken: its fill, volatility sizing too, is over the rows of ALL bars before it, and its decision is what
   -- the table's rules mean over the rows of all bars and its own; so are the point and the trades that it adds.
-  pub next : (table : List ℕ) → FromTable table s ls → (bar : List ℕ) → step_verdict s r.state bar r.rooms ls ≡ Fine
+  pub next : (table : List ℕ) → FromTable table s ls → (bar : List ℕ) → step_verdict s r.state bar r.rooms ls ≡ Ok tt
       → let d = stepped s r.state bar r.rooms ls in
       let b = taken s (by_meaning s (rules_of table)) (account_of r.state) (rows_of s (take r.done bars)) bar in
       (account_of d.result ≡ b.account) × Grown r.state r.rooms d.result d.rooms (b.point ∷ []) b.trades

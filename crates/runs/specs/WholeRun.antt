@@ -2,19 +2,19 @@
 -- D rows and a run that keeps everything give equal trades, equity, state other than the rows and their count, and metrics, after every
 -- bar and for volatility sizing too, over any number of bars until the first refusal. A refusal of any kind but 10 falls at the same
 -- bar in both."
-use Rattle.std.specs.Prelude.{ℕ, ◌≤◌, ◌≡◌, List, length, take}
+use Rattle.std.specs.Prelude.{ℕ, ◌≤◌, ◌≡◌, List, length, take, Err}
 use Rattle.words.specs.{declared.refusal.Refusal.Refusal}
 use Rattle.records.specs.{declared.settings.Settings.Settings, Lent.Lists, Lent.Rooms, Lent.row_places, Lent.point_places, Lent.trade_places, State.fresh_state}
-use Rattle.refusals.specs.{declared.verdict.Verdict.TheVariants.Bad}
 use Rattle.runs.specs.{AsMeant.IsWhole, AsMeant.as_meant, Laws.NeverTen.never_ten, SameRun.SameRun, SameRun.same_run, WholeHistory.whole_history}
 use Rattle.engine.specs.{Rules.FromTable, Run.Run, Run.run_over, Whole.rows_held, Whole.rows_of, Whole.meant_run}
+use Rattle.words.specs.{Outcome.number_of}
 
 -- r and r' are the runs over m and m'
 pub record WholeRun (s : Settings) (ls : Lists) (m' : Rooms) (bars : List (List ℕ)) (r r' : Run) : Type 0 where
   -- they take as many bars, stop with the same number and place, and differ in their rows alone, finished or not
   pub same : SameRun s r r'
   -- no number is 10
-  pub no_ten : (why : Refusal) → r.verdict ≡ Bad why → why.number ≡ 10 → ⊥
+  pub no_ten : (why : Refusal) → r.verdict ≡ Err why → number_of why ≡ 10 → ⊥
   -- where m' has a place for every bar, r' keeps everything
   pub everything : length bars ≤ row_places s.slots m'.rows
       → rows_held s r'.state r'.rooms ≡ rows_of s (take r'.done bars)

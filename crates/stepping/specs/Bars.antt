@@ -1,10 +1,12 @@
 -- The call that steps over a bar. Definitions only.
-use Rattle.std.specs.Prelude.{ℕ, List, ◌++◌}
+use Rattle.std.specs.Prelude.{ℕ, List, ◌++◌, Err, Ok, Result}
 use Rattle.words.specs.{Words.overwrite, Outcome.Outcome, Outcome.gives, Outcome.refuses}
 use Rattle.records.specs.{Lent.Rooms, Lent.Lists, Settings.settings_of, StateWords.state_of, StateWords.words_of}
 use Rattle.refusals.specs.{Lines.Line, Lines.judged, Rooms.room_lines}
-use Rattle.engine.specs.{declared.answer.Answer.Answer, declared.answer.Answer.TheVariants.Refused, declared.answer.Answer.TheVariants.Done, Step.step_answer}
+use Rattle.engine.specs.{Step.step_answer}
 use Rattle.replies.specs.{Call.Call, Call.call_of, Call.unless_bad, Call.word_lines}
+use Rattle.words.specs.{declared.refusal.Refusal.Refusal}
+use Rattle.records.specs.{declared.state.State.State}
 
 -- "Under one number the lowest place is given": the room of rows is number 0, and so comes before those that only a C call has.
 -- A setting past the end of the words reads as 0.
@@ -17,9 +19,9 @@ pub record StepLent : Type 0 where
   pub rooms : Rooms
 
 -- what the engine's step comes to, in words
-unfoldable pub step_gives : Answer → List ℕ → Rooms → Outcome StepLent
-step_gives (Refused why given) state rooms = refuses why
-step_gives (Done next) state rooms = gives (record { state = overwrite state 0 (words_of next); rooms = rooms })
+unfoldable pub step_gives : Result State (Refusal × State) → List ℕ → Rooms → Outcome StepLent
+step_gives (Err (why, given)) state rooms = refuses why
+step_gives (Ok next) state rooms = gives (record { state = overwrite state 0 (words_of next); rooms = rooms })
 
 unfoldable pub step_call : List ℕ → List ℕ → List ℕ → Rooms → Lists → Call StepLent
 step_call settings state bar rooms lists =

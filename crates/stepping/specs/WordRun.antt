@@ -1,11 +1,11 @@
 -- A run through the C interface: a call of ysh_step for each bar, over the words that the one before left. Definitions only.
-use Rattle.std.specs.Prelude.{ℕ, ◌+◌, cond, List, [], ◌∷◌, eqb}
+use Rattle.std.specs.Prelude.{ℕ, ◌+◌, cond, List, [], ◌∷◌, eqb, Err, Ok}
 use Rattle.words.specs.{Words.overwrite}
 use Rattle.records.specs.{declared.state.State.State, Lent.Rooms, Lent.Lists, StateWords.words_of}
-use Rattle.refusals.specs.{declared.verdict.Verdict.Verdict, declared.verdict.Verdict.TheVariants.Fine, declared.verdict.Verdict.TheVariants.Bad}
 use Rattle.engine.specs.{Run.Run}
 use Rattle.replies.specs.{Call.answer_word}
 use Rattle.stepping.specs.{Bars.StepLent, Bars.step_call}
+use Rattle.refusals.specs.{Lines.Verdict}
 
 -- How many calls did their work, the answer of the one that ended the run (0 where all did), and what is left.
 pub record WordRun : Type 0 where
@@ -28,8 +28,8 @@ calls_over settings ls lent (bar ∷ bars) =
 
 -- what a verdict answers
 unfoldable pub answer_of : Verdict → ℕ
-answer_of Fine = 0
-answer_of (Bad r) = answer_word r
+answer_of (Ok tt) = 0
+answer_of (Err r) = answer_word r
 
 -- a state's words stand at the start of the room that is lent for them
 abbrev pub lent_with : List ℕ → State → Rooms → StepLent

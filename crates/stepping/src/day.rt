@@ -22,8 +22,8 @@ fn judge_lent(span: Span, settings: &[u64], state: &[u64], bars: &[u64], rows: &
     if engine::day::no_bars(span, bars) {
         return judge_words(settings, state);
     }
-    if let Verdict::Bad(refusal) = refusals::rooms::judge_room(settings_of(settings), rows) {
-        return Verdict::Bad(refusal);
+    if let Err(refusal) = refusals::rooms::judge_room(settings_of(settings), rows) {
+        return Err(refusal);
     }
     judge_words(settings, state)
 }
@@ -35,8 +35,8 @@ fn judge_short(span: Span, settings: &[u64], state: &[u64], bars: &[u64], rows: 
 {
     let words = judge_words(settings, state);
     match words {
-        Verdict::Fine => Verdict::Fine,
-        Verdict::Bad(_) => judge_lent(span, settings, state, bars, rows),
+        Ok(()) => Ok(()),
+        Err(_) => judge_lent(span, settings, state, bars, rows),
     }
 }
 
@@ -55,8 +55,8 @@ pub fn answer_of(verdict: Verdict) -> u64
     ensures { result ≡ answer_of verdict }
 {
     match verdict {
-        Verdict::Fine => 0,
-        Verdict::Bad(refusal) => answer_word(refusal),
+        Ok(()) => 0,
+        Err(refusal) => answer_word(refusal),
     }
 }
 
@@ -84,7 +84,7 @@ pub fn call_bars<'a>(
           };
         } }
 {
-    if let Verdict::Bad(refusal) = judge_short(span, settings, state, bars, rows) {
+    if let Err(refusal) = judge_short(span, settings, state, bars, rows) {
         *done = 0;
         return answer_word(refusal);
     }

@@ -1,8 +1,9 @@
 -- A run taken one step further, whatever keeps its values.
+use Rattle.std.specs.Prelude.{Float, None, Option}
 use Rattle.words.specs.Prelude.{ℕ, zero, suc, ◌+◌, ◌-◌, ◌≤◌, ◌<◌, min, ◌≡◌, refl, ◌∙◌, Bool, true, false, List, [], ◌∷◌, arith, sub-one, ltb, drop, ltb-true}
 use Rattle.words.specs.Prelude.{ltb-false}
 use Rattle.rows.specs.{History.History}
-use Rattle.rules.specs.{declared.position.PositionState.PositionState, declared.values.Value.Value, declared.values.Value.TheVariants.Missing, Values.compared}
+use Rattle.rules.specs.{declared.position.PositionState.PositionState, Values.compared}
 use Rattle.rules.specs.{Values.crossed}
 use Rattle.steps.specs.{declared.step.Op.Op, declared.step.Step.Step, Bytes.op_of, Bytes.step_at, Bytes.ops_from, Bytes.is_comparison, Machine.Values}
 use Rattle.steps.specs.{Machine.Effect, Machine.nth, Machine.given, Machine.giving, Machine.saying, Machine.passing, Machine.effect, Machine.does}
@@ -70,7 +71,7 @@ module _ (h : History) (s : PositionState) (bs : List ℕ) (n : ℕ) where
       let z : n - 0 ≡ n = omega arith in
       record { seen = omega arith; on = omega arith; same = rw z; count = rw z (omega arith) }
 
-  module _ (vs : List Value) (y : Bool) (visits p : ℕ) (g : Came h s bs n vs y visits p) where
+  module _ (vs : List (Option Float)) (y : Bool) (visits p : ℕ) (g : Came h s bs n vs y visits p) where
     -- what the step at p does
     abbrev done : Effect
     done = effect h s (op_of (step_at bs p)) (nth vs 0) (nth vs 1) (nth vs 2) (nth vs 3) y
@@ -134,7 +135,7 @@ module _ (h : History) (s : PositionState) (bs : List ℕ) (n : ℕ) where
       next = omega (arith, more)
 
       -- a leaf
-      came_leaf : (v : Value) → Gives h bs p v → Came h s bs n (v ∷ vs) y (visits + 1) (p + 1)
+      came_leaf : (v : Option Float) → Gives h bs p v → Came h s bs n (v ∷ vs) y (visits + 1) (p + 1)
       came_leaf v is = rw next at (came_on (giving 0 v y) (is s (nth vs 0) (nth vs 1) (nth vs 2) (nth vs 3) y) (omega arith))
 
       -- a step that takes m values and answers
@@ -151,7 +152,7 @@ module _ (h : History) (s : PositionState) (bs : List ℕ) (n : ℕ) where
 
 -- ---- a test with its leaves
 
-module _ (h : History) (bs : List ℕ) (n p : ℕ) (a b : Value) (first : Gives h bs p a) (second : Gives h bs (p + 1) b) where
+module _ (h : History) (bs : List ℕ) (n p : ℕ) (a b : Option Float) (first : Gives h bs p a) (second : Gives h bs (p + 1) b) where
   -- two leaves further
   two : (s : PositionState) (y : Bool) (visits : ℕ) → p + 2 ≤ n → Came h s bs n [] y visits p → Came h s bs n (b ∷ a ∷ []) y (visits + 2) (p + 2)
   two s y visits more g =
@@ -165,9 +166,9 @@ module _ (h : History) (bs : List ℕ) (n p : ℕ) (a b : Value) (first : Gives 
       let place : p + 2 + 1 ≡ p + 3 = omega arith in
       let seen : visits + 2 + 1 ≡ visits + 3 = omega arith in
       rw (place, seen) at (came_say h s bs n (b ∷ a ∷ []) y (visits + 2) (p + 2) (two s y visits (omega arith) g) (omega arith) 2 (compared x.kind a b)
-      (rw (← is) (does_compare x h s b a Missing Missing y class)))
+      (rw (← is) (does_compare x h s b a None None y class)))
 
-  module _ (c d : Value) (third : Gives h bs (p + 2) c) (fourth : Gives h bs (p + 3) d) where
+  module _ (c d : Option Float) (third : Gives h bs (p + 2) c) (fourth : Gives h bs (p + 3) d) where
     -- four leaves further
     four : (s : PositionState) (y : Bool) (visits : ℕ) → p + 4 ≤ n → Came h s bs n [] y visits p
         → Came h s bs n (d ∷ c ∷ b ∷ a ∷ []) y (visits + 4) (p + 4)

@@ -1,12 +1,13 @@
 -- What is said of a list's steps from a place on, by those that are good.
+use Rattle.std.specs.Prelude.{Err, Ok}
 use Rattle.words.specs.Prelude.{ℕ, suc, ◌+◌, ◌-◌, ◌*◌, ◌<◌, ◌≤◌, ◌≡◌, ◌∙◌, true, cond, List, arith, sub-one, lt-ltb}
-use Rattle.steps.specs.{declared.wellformed.Formed.TheVariants.Well, declared.wellformed.Formed.TheVariants.Bad, Bytes.read_step, Bytes.step_at}
+use Rattle.steps.specs.{Bytes.read_step, Bytes.step_at}
 use Rattle.steps.specs.{Bytes.steps_in, WellFormed.good_step, WellFormed.formed_from}
 
 module _ (K D : ℕ) (bs : List ℕ) (n : ℕ) where
   -- the step at p decides, or those after it do
   pub one_more : (p : ℕ) → n ≡ steps_in bs → p < n → formed_from K D bs p (n - p)
-      ≡ cond (good_step K D (n - p - 1) (read_step bs (16 * p))) (formed_from K D bs (p + 1) (n - (p + 1))) (Bad p)
+      ≡ cond (good_step K D (n - p - 1) (read_step bs (16 * p))) (formed_from K D bs (p + 1) (n - (p + 1))) (Err p)
   unfolding formed_from step_at
   one_more p all l =
       let m : ℕ = n - p - 1 in
@@ -40,6 +41,6 @@ module _ (K D : ℕ) (bs : List ℕ) (n : ℕ) where
       ∙ rw four at (one_good (p + 3) all (omega arith) (rw (after, fourth-place) at fourth))
 
   -- past the last nothing is left to be bad
-  pub none_left : (p : ℕ) → n ≤ p → formed_from K D bs p (n - p) ≡ Well
+  pub none_left : (p : ℕ) → n ≤ p → formed_from K D bs p (n - p) ≡ Ok tt
   unfolding formed_from
   none_left p l = let e : n - p ≡ 0 = omega arith in rw e

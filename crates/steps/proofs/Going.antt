@@ -1,9 +1,9 @@
 -- A run taken one step further, with the values in two lists: the four places below them are always missing.
+use Rattle.std.specs.Prelude.{None, Option, Some}
 use Rattle.words.specs.Prelude.{ℕ, zero, suc, ◌+◌, ◌-◌, ◌≤◌, ◌<◌, min, ◌≡◌, refl, sym, ap, ◌∙◌, Bool, true, false, true≢false, List, [], ◌∷◌, arith, sub-zero}
 use Rattle.words.specs.Prelude.{add-one, Float, nan, length, drop, set, length-set, length-replicate, get_or-set_same, get_or-set_other}
 use Rattle.rows.specs.{History.History}
-use Rattle.rules.specs.{declared.position.PositionState.PositionState, declared.values.Value.Value, declared.values.Value.TheVariants.Missing}
-use Rattle.rules.specs.{declared.values.Value.TheVariants.Number}
+use Rattle.rules.specs.{declared.position.PositionState.PositionState}
 use Rattle.steps.specs.{declared.machine.Ran.Ran, Bytes.op_of, Bytes.step_at, Machine.Effect, Machine.nth, Machine.given, Machine.giving, Machine.viewing}
 use Rattle.steps.specs.{Machine.saying, Machine.passing, Machine.effect, Places.numbers_with, Places.is_there, Places.value_at, Places.Fresh, Places.Came}
 use Rattle.steps.specs.{Places.Tries}
@@ -14,13 +14,13 @@ use lib.ListN.{get_or-replicate}
 -- ---- the values
 
 -- the first `top` values above the four, the last first
-pub shown : List Float → List Bool → ℕ → List Value
+pub shown : List Float → List Bool → ℕ → List (Option Float)
 shown ns ts zero = []
 shown ns ts (suc p) = value_at ns ts (p + 4) ∷ shown ns ts p
 
 -- the four places below the values
 abbrev Low : List Float → List Bool → Type 0
-Low ns ts = (j : ℕ) → j < 4 → value_at ns ts j ≡ Missing
+Low ns ts = (j : ℕ) → j < 4 → value_at ns ts j ≡ None
 
 module _ (ns : List Float) (ts : List Bool) where
   nth-shown : Low ns ts → (top j : ℕ) → j ≤ 3 → nth (shown ns ts top) j ≡ value_at ns ts (top + 3 - j)
@@ -37,27 +37,27 @@ module _ (ns : List Float) (ts : List Bool) where
 
 -- a value put at place i
 module _ (ns : List Float) (ts : List Bool) (i : ℕ) where
-  put_other : (v : Value) (j : ℕ) → j < i → value_at (numbers_with ns i v) (set ts i (is_there v)) j ≡ value_at ns ts j
+  put_other : (v : Option Float) (j : ℕ) → j < i → value_at (numbers_with ns i v) (set ts i (is_there v)) j ≡ value_at ns ts j
   unfolding value_at numbers_with is_there
-  put_other Missing j l = rw (get_or-set_other ts i j false false (ne_of_lt l))
-  put_other (Number x) j l = rw (get_or-set_other ts i j true false (ne_of_lt l), get_or-set_other ns i j x nan (ne_of_lt l))
+  put_other None j l = rw (get_or-set_other ts i j false false (ne_of_lt l))
+  put_other (Some x) j l = rw (get_or-set_other ts i j true false (ne_of_lt l), get_or-set_other ns i j x nan (ne_of_lt l))
 
-  put_same : (v : Value) → i < length ns → i < length ts → value_at (numbers_with ns i v) (set ts i (is_there v)) i ≡ v
+  put_same : (v : Option Float) → i < length ns → i < length ts → value_at (numbers_with ns i v) (set ts i (is_there v)) i ≡ v
   unfolding value_at numbers_with is_there
-  put_same Missing l m = rw (get_or-set_same ts i false false m)
-  put_same (Number x) l m = rw (get_or-set_same ts i true false m, get_or-set_same ns i x nan l)
+  put_same None l m = rw (get_or-set_same ts i false false m)
+  put_same (Some x) l m = rw (get_or-set_same ts i true false m, get_or-set_same ns i x nan l)
 
-  put_length : (v : Value) → length (numbers_with ns i v) ≡ length ns
+  put_length : (v : Option Float) → length (numbers_with ns i v) ≡ length ns
   unfolding numbers_with
-  put_length Missing = refl
-  put_length (Number x) = length-set ns i x
+  put_length None = refl
+  put_length (Some x) = length-set ns i x
 
-  set-shown : (v : Value) (top : ℕ) → top + 4 ≤ i → shown (numbers_with ns i v) (set ts i (is_there v)) top ≡ shown ns ts top
+  set-shown : (v : Option Float) (top : ℕ) → top + 4 ≤ i → shown (numbers_with ns i v) (set ts i (is_there v)) top ≡ shown ns ts top
   unfolding shown
   set-shown v zero le = refl
   set-shown v (suc p) le = rw (put_other v (p + 4) (omega arith), set-shown v p (omega arith))
 
-put_shown : (ns : List Float) (ts : List Bool) (v : Value) (under : ℕ) → under + 4 < length ns → under + 4 < length ts
+put_shown : (ns : List Float) (ts : List Bool) (v : Option Float) (under : ℕ) → under + 4 < length ns → under + 4 < length ts
     → shown (numbers_with ns (under + 4) v) (set ts (under + 4) (is_there v)) (under + 1) ≡ v ∷ shown ns ts under
 unfolding shown
 put_shown ns ts v under l m = rw (add-one under, put_same ns ts (under + 4) v l m, set-shown ns ts (under + 4) v under (omega arith))
@@ -68,7 +68,7 @@ put_shown ns ts v under l m = rw (add-one under, put_same ns ts (under + 4) v l 
 pub record Room (most : ℕ) (ns : List Float) (ts : List Bool) : Type 0 where
   pub numbers : length ns ≡ most + 4
   pub theres : length ts ≡ most + 4
-  pub low : (j : ℕ) → j < 4 → value_at ns ts j ≡ Missing
+  pub low : (j : ℕ) → j < 4 → value_at ns ts j ≡ None
 
 -- a run that has come to place p
 pub record Going (h : History) (s : PositionState) (bs : List ℕ) (n most : ℕ) (ns : List Float) (ts : List Bool) (top : ℕ)
@@ -118,7 +118,7 @@ module _ (h : History) (s : PositionState) (bs : List ℕ) (n most : ℕ) (ns : 
   next = omega (arith, more)
 
   -- a step that takes m values and gives one, for which there is a place
-  pub going_give : (m : ℕ) (v : Value) → top - m < most → done ≡ giving m v y
+  pub going_give : (m : ℕ) (v : Option Float) → top - m < most → done ≡ giving m v y
       → Going h s bs n most (numbers_with ns (top - m + 4) v) (set ts (top - m + 4) (is_there v)) (top - m + 1) y (visits + 1) (p + 1)
   going_give m v free is =
       rw next at (going_on (giving m v y) is (numbers_with ns (top - m + 4) v) (set ts (top - m + 4) (is_there v)) (top - m + 1)
@@ -133,12 +133,12 @@ module _ (h : History) (s : PositionState) (bs : List ℕ) (n most : ℕ) (ns : 
       (put_shown ns ts v (top - m) (omega (arith, free, g.room.numbers)) (omega (arith, free, g.room.theres))))
 
   -- a leaf: none is taken
-  pub going_leaf : (v : Value) → top < most → done ≡ giving 0 v y
+  pub going_leaf : (v : Option Float) → top < most → done ≡ giving 0 v y
       → Going h s bs n most (numbers_with ns (top + 4) v) (set ts (top + 4) (is_there v)) (top + 1) y (visits + 1) (p + 1)
   going_leaf v free is = rw (sub-zero top) at (going_give 0 v (omega (arith, free)) is)
 
   -- a look over k rows: none is taken, and it counts k visits
-  pub going_look : (k : ℕ) (v : Value) → k < 65536 → top < most → done ≡ viewing k v y
+  pub going_look : (k : ℕ) (v : Option Float) → k < 65536 → top < most → done ≡ viewing k v y
       → Going h s bs n most (numbers_with ns (top + 4) v) (set ts (top + 4) (is_there v)) (top + 1) y (visits + 1 + (k - 1)) (p + 1)
   going_look k v small free is =
       let counted : visits + (1 + (k - 1)) ≡ visits + 1 + (k - 1) = omega arith in

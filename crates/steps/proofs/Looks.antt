@@ -1,11 +1,12 @@
 -- The best over rows one after the other; and rows that are passed over, which leave it as it was.
+use Rattle.std.specs.Prelude.{Option, Some}
 use Rattle.words.specs.Prelude.{ℕ, zero, suc, ◌+◌, ◌-◌, ◌*◌, ◌<◌, ◌≤◌, ◌≡◌, sym, ◌∙◌, Bool, true, false, true≢false, ⊎_elim, List, arith, add-mul, Float}
 use Rattle.words.specs.Prelude.{add-one, length, eq-eqb, ne_eqb, lt-ltb, le-ltb}
 use Rattle.words.specs.{Laws.Numbers.less_or_not}
 use Rattle.floats.specs.{Floats.◌≺◌}
 use Rattle.rows.specs.{History.history_of, Ring.ring_place, Ring.ring_of, Laws.RowEnds.row_ends}
 use Rattle.table.specs.{declared.series.Series.Series, declared.series.Series.TheVariants.Price, declared.series.Series.TheVariants.Slot}
-use Rattle.rules.specs.{declared.values.Value.Value, declared.values.Value.TheVariants.Number, Values.words_from, Values.better, Values.took, Values.pick}
+use Rattle.rules.specs.{Values.words_from, Values.better, Values.took, Values.pick}
 use Rattle.rules.specs.{Meaning.series_at, Meaning.extreme_over, Laws.Meaning.extreme_more}
 use Rattle.steps.specs.{Looks.of_row, Looks.place_of, Looks.InRow, Looks.best_after, Looks.PassedOver, Looks.Stopped}
 use Rattle.steps.proofs.{Rows.price_in, Rows.slot_in}
@@ -21,7 +22,7 @@ place_in slots false p has = omega (arith, has)
 pub next_row : (base at k m w : ℕ) → at ≡ base + k * w → m ≡ k + 1 → at + w ≡ base + m * w
 next_row base at k m w is more = rw (is, more, add-mul k 1 w) (omega arith)
 
-module _ (kind : ℕ) (over : Series) (ws : List ℕ) (slots base : ℕ) (start : Value) where
+module _ (kind : ℕ) (over : Series) (ws : List ℕ) (slots base : ℕ) (start : Option Float) where
   -- the definition, with + 1 for suc
   best_more : (k : ℕ) → best_after kind over ws slots base start (k + 1)
       ≡ pick kind (best_after kind over ws slots base start k) (of_row over (words_from ws (base + k * (7 + slots))))
@@ -29,30 +30,30 @@ module _ (kind : ℕ) (over : Series) (ws : List ℕ) (slots base : ℕ) (start 
   best_more k = rw (add-one k)
 
   -- what it has takes the place of the best, or leaves it
-  pub best_next : (k m : ℕ) (best x next : Float) → m ≡ k + 1 → Number best ≡ best_after kind over ws slots base start k
-      → of_row over (words_from ws (base + k * (7 + slots))) ≡ Number x → took kind best x ≡ next → Number next ≡ best_after kind over ws slots base start m
+  pub best_next : (k m : ℕ) (best x next : Float) → m ≡ k + 1 → Some best ≡ best_after kind over ws slots base start k
+      → of_row over (words_from ws (base + k * (7 + slots))) ≡ Some x → took kind best x ≡ next → Some next ≡ best_after kind over ws slots base start m
   unfolding pick
   best_next k m best x next more so_far has takes = rw (more, best_more k, ← so_far, has, takes)
 
 -- ---- a row that is no better
 
 module _ (kind : ℕ) (best x : Float) where
-  pub not_higher : kind ≡ 9 → (best ≺ x) ≡ false → pick kind (Number best) (Number x) ≡ Number best
+  pub not_higher : kind ≡ 9 → (best ≺ x) ≡ false → pick kind (Some best) (Some x) ≡ Some best
   unfolding pick took better
   not_higher is worse = rw (eq-eqb kind 9 is, worse)
 
-  pub not_lower : (kind ≡ 9 → ⊥) → (x ≺ best) ≡ false → pick kind (Number best) (Number x) ≡ Number best
+  pub not_lower : (kind ≡ 9 → ⊥) → (x ≺ best) ≡ false → pick kind (Some best) (Some x) ≡ Some best
   unfolding pick took better
   not_lower is worse = rw (ne_eqb kind 9 is, worse)
 
 -- one row more
 pub passed_more : (kind : ℕ) (over : Series) (ws : List ℕ) (slots base : ℕ) (best : Float) (k : ℕ) → PassedOver kind over ws slots base best k
-    → pick kind (Number best) (of_row over (words_from ws (base + k * (7 + slots)))) ≡ Number best → PassedOver kind over ws slots base best (k + 1)
+    → pick kind (Some best) (of_row over (words_from ws (base + k * (7 + slots)))) ≡ Some best → PassedOver kind over ws slots base best (k + 1)
 passed_more kind over ws slots base best k before this i l =
     ⊎_elim (λ (near : i < k). before i near) (λ (far : k ≤ i). let here : i ≡ k = omega arith in rw here this) (less_or_not i k)
 
 -- where it stopped
-module _ (over : Series) (ws : List ℕ) (slots base count m : ℕ) (later : Value) where
+module _ (over : Series) (ws : List ℕ) (slots base count m : ℕ) (later : Option Float) where
   pub no_more : (row : Bool) → Stopped over ws slots base count m row later → m ≤ count
   no_more true s = omega (arith, s.0)
   no_more false s = omega (arith, s)
@@ -112,7 +113,7 @@ module _ (K first : ℕ) (ws : List ℕ) (held : ℕ) (is : held ≡ (history_of
       )
 
   -- the best over so many rows more
-  pub best_on : (kind : ℕ) (over : Series) (best : Value) (oldest i m : ℕ) → oldest ≤ i → i + m < held → ring_place held first (i + 1) + m ≤ held
+  pub best_on : (kind : ℕ) (over : Series) (best : Option Float) (oldest i m : ℕ) → oldest ≤ i → i + m < held → ring_place held first (i + 1) + m ≤ held
       → best ≡ extreme_over (ring_of K first ws) kind over oldest (i - oldest)
       → best_after kind over ws K (ring_place held first (i + 1) * (7 + K)) best m ≡ extreme_over (ring_of K first ws) kind over oldest (i + m - oldest)
   unfolding best_after
@@ -130,8 +131,8 @@ module _ (K first : ℕ) (ws : List ℕ) (held : ℕ) (is : held ≡ (history_of
   -- the best stays the best over the rows that are passed
   pub passed_on : (kind : ℕ) (over : Series) (best : Float) (oldest i m : ℕ) → oldest ≤ i → i + m < held → ring_place held first (i + 1) + m ≤ held
       → PassedOver kind over ws K (ring_place held first (i + 1) * (7 + K)) best m
-      → Number best ≡ extreme_over (ring_of K first ws) kind over oldest (i - oldest)
-      → Number best ≡ extreme_over (ring_of K first ws) kind over oldest (i + m - oldest)
+      → Some best ≡ extreme_over (ring_of K first ws) kind over oldest (i - oldest)
+      → Some best ≡ extreme_over (ring_of K first ws) kind over oldest (i + m - oldest)
   passed_on kind over best oldest i zero le l ends passed so_far = let none : i + 0 ≡ i = omega arith in rw none so_far
   passed_on kind over best oldest i (suc m) le l ends passed so_far =
       let before = passed_on kind over best oldest i m le (omega arith) (omega arith) (λ k near. passed k (omega arith)) so_far in

@@ -1,10 +1,11 @@
 -- A leaf n rows before the newest, in a list of words.
+use Rattle.std.specs.Prelude.{None, Some}
 use Rattle.words.specs.Prelude.{ℕ, ◌+◌, ◌-◌, ◌*◌, ◌<◌, ◌≤◌, ◌≡◌, sym, ap, ◌∙◌, cond, ⊎_elim, List, arith, lt-ltb, le-ltb, ltb, length}
 use Rattle.words.specs.{Laws.Numbers.less_or_not}
 use Rattle.floats.specs.{Floats.float_of}
 use Rattle.rows.specs.{History.History, History.history_of, Ring.ring_place, Ring.ring_of, Laws.RowEnds.row_ends, Laws.Ring.place_within, Laws.Ring.ring_row}
 use Rattle.table.specs.{Trees.Operand, Trees.const, Trees.ref, Trees.price}
-use Rattle.rules.specs.{declared.values.Value.TheVariants.Missing, declared.values.Value.TheVariants.Number, Values.words_from, Values.price_of, Values.slot_of}
+use Rattle.rules.specs.{Values.words_from, Values.price_of, Values.slot_of}
 use Rattle.rules.specs.{Meaning.series_at, Meaning.value, Meaning.newest, Laws.Meaning.const-value, Laws.Meaning.ref_value, Laws.Meaning.price-value}
 use Rattle.rules.specs.{Laws.Meaning.price_series, Laws.Meaning.slot_series}
 use Rattle.steps.specs.{Machine.ago}
@@ -14,11 +15,11 @@ pub there_ago : (h : History) (a : Operand) (n : ℕ) → n < h.rows → ago h a
 unfolding ago newest
 there_ago h a n l = rw (lt-ltb n h.rows l)
 
-pub ago_late : (h : History) (a : Operand) (held n : ℕ) → held ≡ h.rows → held ≤ n → ago h a n ≡ Missing
+pub ago_late : (h : History) (a : Operand) (held n : ℕ) → held ≡ h.rows → held ≤ n → ago h a n ≡ None
 unfolding ago
 ago_late h a held n is l = rw (← is, le-ltb n held l)
 
-pub ago-const : (h : History) (held n bits : ℕ) → held ≡ h.rows → n < held → ago h (const bits) n ≡ Number (float_of bits)
+pub ago-const : (h : History) (held n bits : ℕ) → held ≡ h.rows → n < held → ago h (const bits) n ≡ Some (float_of bits)
 ago-const h held n bits is l = there_ago h (const bits) n (rw is at l) ∙ const-value h (h.rows - 1 - n) (omega arith) bits
 
 -- rows that begin at row `first` are as many as the list has
@@ -42,7 +43,7 @@ module _ (K first : ℕ) (ws : List ℕ) (held n : ℕ) (is : held ≡ (history_
   place_ends i l = row_ends K ws (ring_place held first i) (rw (← is) (place_within held first i fits l))
 
   -- a price and a slot of it
-  pub price_in : (p i : ℕ) → i < held → series_at (ring_of K first ws) (Over.Price p) i ≡ Number (price_of (words_from ws (ring_place held first i * (7 + K))) p)
+  pub price_in : (p i : ℕ) → i < held → series_at (ring_of K first ws) (Over.Price p) i ≡ Some (price_of (words_from ws (ring_place held first i * (7 + K))) p)
   price_in p i l = price_series (ring_of K first ws) i (rw all at l) p ∙ rw (row_there i l)
 
   pub slot_in : (k i : ℕ) → i < held → series_at (ring_of K first ws) (Over.Slot k) i ≡ slot_of (words_from ws (ring_place held first i * (7 + K))) k
@@ -56,7 +57,7 @@ module _ (K first : ℕ) (ws : List ℕ) (held n : ℕ) (is : held ≡ (history_
       ∙ rw (← all, row_there (held - 1 - n) (omega arith))
 
   pub ago-price : (p : ℕ) → n < held
-      → ago (ring_of K first ws) (price p) n ≡ Number (price_of (words_from ws (ring_place held first (held - 1 - n) * (7 + K))) p)
+      → ago (ring_of K first ws) (price p) n ≡ Some (price_of (words_from ws (ring_place held first (held - 1 - n) * (7 + K))) p)
   ago-price p l =
       let h = ring_of K first ws in
       there_ago h (price p) n (rw all at l)

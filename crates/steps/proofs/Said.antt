@@ -1,4 +1,5 @@
 -- What a step says, by the range in which its kind lies.
+use Rattle.std.specs.Prelude.{Float, Option}
 use Rattle.words.specs.Prelude.{◌-◌, ◌≤◌, ◌<◌, ◌≡◌, refl, Bool, true, false, cond, arith, ltb, leb, eqb, ltb-true, ltb-false, eq-eqb, ne_eqb, le-leb, lt-leb}
 use Rattle.words.specs.Prelude.{lt-ltb, le-ltb}
 use Rattle.steps.specs.{declared.step.Step.Step, declared.step.Op.TheVariants.Const, declared.step.Op.TheVariants.Ref}
@@ -10,7 +11,7 @@ use Rattle.steps.specs.{Bytes.is_test_step, Laws.Classes.operation_out, Laws.Cla
 use Rattle.steps.specs.{Laws.Classes.says_arith, Laws.Classes.says_compare, Laws.Classes.says_cross, Laws.Classes.says_between, Laws.Classes.says_no_test}
 use Rattle.steps.specs.{Machine.giving, Machine.saying, Machine.passing, Machine.effect}
 use Rattle.rows.specs.{History.History}
-use Rattle.rules.specs.{declared.position.PositionState.PositionState, declared.values.Value.Value, Values.combined, Values.compared, Values.crossed}
+use Rattle.rules.specs.{declared.position.PositionState.PositionState, Values.combined, Values.compared, Values.crossed}
 use Rattle.rules.specs.{Values.within}
 use mathlib.Core.Bool.{beq}
 use Rattle.table.specs.declared.series.Series.TheVariants as Over
@@ -131,7 +132,7 @@ module _ (x : Step) where
 
   -- ---- what is done
 
-  module _ (h : History) (s : PositionState) (a b c d : Value) (y : Bool) where
+  module _ (h : History) (s : PositionState) (a b c d : Option Float) (y : Bool) where
     pub does_arith : is_operation x.kind ≡ true → effect h s (op_of x) a b c d y ≡ giving 2 (combined x.kind b a) y
     unfolding effect
     does_arith is = rw (says_arith x is)

@@ -1,14 +1,13 @@
 -- A well-formed list, wherever it comes from, answers over the last D rows what it answers over all, and visits the same steps.
-use Rattle.std.specs.Prelude.{ℕ, zero, suc, ◌+◌, ◌-◌, ◌/◌, ◌%◌, ◌≤◌, ◌<◌, min, ◌≡◌, refl, Bool, true, false, cond, ◌&&◌, List, [], ◌∷◌, ltb, eqb, length}
+use Rattle.std.specs.Prelude.{ℕ, zero, suc, ◌+◌, ◌-◌, ◌/◌, ◌%◌, ◌≤◌, ◌<◌, min, ◌≡◌, refl, Bool, true, false, cond, ◌&&◌, List, [], ◌∷◌, ltb, eqb, length, Err, Float, Ok, Option, Result}
 use Rattle.words.specs.Prelude.{sym, ap, ◌∙◌, ⊎_elim}
 use Rattle.words.specs.Prelude.{arith, zero-mul, lt-ltb, le-ltb, ltb-true, ltb-false}
 use Rattle.words.specs.{Limits.most_steps, Laws.Numbers.less_or_not}
 use Rattle.rows.specs.{History.History, History.history_of, History.width, History.last_rows, Ring.ring_of, Ring.turned, Laws.Ring.SameRows, Laws.Ring.ring_turned}
 use Rattle.table.specs.{declared.series.Series.Series, Trees.Operand, Trees.const, Trees.ref, Trees.price, Trees.extreme, Trees.reach}
-use Rattle.rules.specs.{declared.position.PositionState.PositionState, declared.values.Value.Value, Values.price_of, Values.slot_of, Meaning.there}
+use Rattle.rules.specs.{declared.position.PositionState.PositionState, Values.price_of, Values.slot_of, Meaning.there}
 use Rattle.rules.specs.{Meaning.series_at, Meaning.extreme_over, Meaning.extreme_at, Meaning.value, Meaning.newest, Meaning.holds, Window.Without}
 use Rattle.rules.specs.{Window.operand_same, Window.without_first}
-use Rattle.steps.specs.{declared.wellformed.Formed.Formed, declared.wellformed.Formed.TheVariants.Well, declared.wellformed.Formed.TheVariants.Bad}
 use Rattle.steps.specs.{declared.step.Op.Op, declared.step.Op.TheVariants.Const, declared.step.Op.TheVariants.Ref, declared.step.Op.TheVariants.Price}
 use Rattle.steps.specs.{declared.step.Op.TheVariants.Arith, declared.step.Op.TheVariants.Compare, declared.step.Op.TheVariants.Cross}
 use Rattle.steps.specs.{declared.step.Op.TheVariants.Between, declared.step.Op.TheVariants.Answer, declared.step.Op.TheVariants.Turn}
@@ -29,7 +28,7 @@ second : (a b : Bool) → (a && b) ≡ true → b ≡ true
 second true b e = e
 second false b e = cc
 
-well_first : (b : Bool) (f : Formed) (p : ℕ) → cond b f (Bad p) ≡ Well → (b ≡ true) × (f ≡ Well)
+well_first : (b : Bool) (f : Result (Unit {0}) ℕ) (p : ℕ) → cond b f (Err p) ≡ Ok tt → (b ≡ true) × (f ≡ Ok tt)
 well_first true f p e = (refl, e)
 well_first false f p e = let never : ◌≡◌ {A = ℕ} 0 1 = cc in absurd (omega arith)
 
@@ -38,7 +37,7 @@ unfolding ops_from
 length_ops bs p zero = refl
 length_ops bs p (suc m) = ap suc (length_ops bs (p + 1) m)
 
-bounded_from : (K D : ℕ) (bs : List ℕ) (p m : ℕ) → formed_from K D bs p m ≡ Well → Bounded K D (ops_from bs p m)
+bounded_from : (K D : ℕ) (bs : List ℕ) (p m : ℕ) → formed_from K D bs p m ≡ Ok tt → Bounded K D (ops_from bs p m)
 unfolding formed_from ops_from Bounded good_step
 bounded_from K D bs p zero w = tt
 bounded_from K D bs p (suc m) w =
@@ -48,13 +47,13 @@ bounded_from K D bs p (suc m) w =
     )
 
 -- of the parts of `formed`
-well_parts : (a b : Bool) (f : Formed) → cond a (cond b (Bad 0) f) (Bad 0) ≡ Well → (b ≡ false) × (f ≡ Well)
+well_parts : (a b : Bool) (f : Result (Unit {0}) ℕ) → cond a (cond b (Err 0) f) (Err 0) ≡ Ok tt → (b ≡ false) × (f ≡ Ok tt)
 well_parts true true f e = let never : ◌≡◌ {A = ℕ} 0 1 = cc in absurd (omega arith)
 well_parts true false f e = (refl, e)
 well_parts false b f e = let never : ◌≡◌ {A = ℕ} 0 1 = cc in absurd (omega arith)
 
-module _ (K D : ℕ) (bs : List ℕ) (well : formed K D bs ≡ Well) where
-  parts : (ltb most_steps (steps_in bs) ≡ false) × (formed_from K D bs 0 (steps_in bs) ≡ Well)
+module _ (K D : ℕ) (bs : List ℕ) (well : formed K D bs ≡ Ok tt) where
+  parts : (ltb most_steps (steps_in bs) ≡ false) × (formed_from K D bs 0 (steps_in bs) ≡ Ok tt)
   unfolding formed
   parts = well_parts (eqb (length bs % 16) 0) (ltb most_steps (steps_in bs)) (formed_from K D bs 0 (steps_in bs)) well
 
@@ -83,7 +82,7 @@ first true b e = refl
 first false b e = e
 
 module _ (K D : ℕ) (w h : History) (leaves : LeavesSame K D w h) (s : PositionState) where
-  effect_same : (m : ℕ) (x : Op) → bounded K D m x ≡ true → (a b c d : Value) (y : Bool) → effect w s x a b c d y ≡ effect h s x a b c d y
+  effect_same : (m : ℕ) (x : Op) → bounded K D m x ≡ true → (a b c d : Option Float) (y : Bool) → effect w s x a b c d y ≡ effect h s x a b c d y
   unfolding effect bounded looks_within holds
   effect_same m (Const bits n) e a b c d y = rw (leaves.constant bits n (ltb-true n D e))
   effect_same m (Ref k n) e a b c d y = rw (leaves.slot k n (ltb-true k K (first (ltb k K) (ltb n D) e)) (ltb-true n D (second (ltb k K) (ltb n D) e)))
@@ -233,13 +232,13 @@ module _ (K D : ℕ) (w h : History) (alike : SameRows K w h) where
 -- ---- the theorems
 
 -- THE WINDOW of any list: well formed for D, it gives over the last D rows the answer and the visits that it gives over all.
-pub window_any : (K D : ℕ) (ws bs : List ℕ) (s : PositionState) → formed K D bs ≡ Well
+pub window_any : (K D : ℕ) (ws bs : List ℕ) (s : PositionState) → formed K D bs ≡ Ok tt
     → ran_over (history_of K (last_rows K D ws)) s (ops_of bs) ≡ ran_over (history_of K ws) s (ops_of bs)
 unfolding h w
 window_any K D ws bs s well = ran_same K D (w K D ws) (h K D ws) (last_same K D ws) s (ops_of bs) (bounded_ops K D bs well)
 
 -- THE RING of any list: well formed for D, it gives over rows from row `start` on what it gives over the last D of the turned rows.
-pub ring_any : (K D start : ℕ) (ws bs : List ℕ) (s : PositionState) → formed K D bs ≡ Well
+pub ring_any : (K D start : ℕ) (ws bs : List ℕ) (s : PositionState) → formed K D bs ≡ Ok tt
     → ran_over (ring_of K start ws) s (ops_of bs) ≡ ran_over (history_of K (last_rows K D (turned (width K) start ws))) s (ops_of bs)
 ring_any K D start ws bs s well =
     let T = history_of K (turned (width K) start ws) in

@@ -1,37 +1,42 @@
 -- DEMAND 3 in one statement, from the bytes of a table to the answer of the public run.
-use Rattle.std.specs.Prelude.{ℕ, ◌+◌, ◌*◌, ◌≤◌, ◌<◌, ◌≡◌, refl, Bool, true, false, cond, List, ◌++◌, ltb, length, take, drop}
+use Rattle.std.specs.Prelude.{ℕ, ◌+◌, ◌*◌, ◌≤◌, ◌<◌, ◌≡◌, refl, Bool, true, false, cond, List, ◌++◌, ltb, length, take, drop, Err, Ok, Result}
 use Rattle.words.specs.Prelude.{ap, ◌∙◌, arith, take_at, le-ltb}
 use Rattle.words.specs.Prelude.{ltb-false}
-use Rattle.words.specs.{Limits.most_rows, Limits.most_reach, Outcome.refusal}
+use Rattle.words.specs.{Limits.most_rows, Limits.most_reach}
 use Rattle.rows.specs.{History.history_of, History.last_rows, History.whole_rows}
-use Rattle.table.specs.{declared.answer.Answer.Answer, declared.answer.Answer.TheVariants.Accepted, declared.answer.Answer.TheVariants.Refused, Trees.reach_of}
+use Rattle.table.specs.{Trees.reach_of}
 use Rattle.table.specs.{Header.slots, Checked.checked, Reading.tree_of, Laws.Accepted.tree_reach_lem, declared.trees.Tree.Tree, Header.tree_number}
 use Rattle.table.specs.{Depth.greatest_reach, Depth.depth_of, Depth.row_bytes, Bytes.Bytes}
 use Rattle.roundtrip.specs.{Laws.Reach.rows_are, Laws.Reach.tree_reach_is}
 use Rattle.rules.specs.{declared.position.PositionState.PositionState, Meaning.says, Answers.state_right, Laws.Answers.tree_of_four, WindowAnswers.tree_near}
 use Rattle.rules.specs.{WindowAnswers.window_whole}
-use Rattle.needed.specs.{declared.depth.DepthAnswer.TheVariants.Needs, Depth.depth_answer}
-use Rattle.steps.specs.{declared.machine.Ran.Ran, declared.running.RunAnswer.TheVariants.Runs, declared.translated.Translated.TheVariants.Writes}
-use Rattle.steps.specs.{declared.translated.Translated.TheVariants.Refuses, Bytes.bytes_of, Bytes.ops_of, Machine.visits_of, Laws.Encoding.steps_long}
+use Rattle.needed.specs.{Depth.depth_answer}
+use Rattle.steps.specs.{declared.machine.Ran.Ran}
+use Rattle.steps.specs.{Bytes.bytes_of, Bytes.ops_of, Machine.visits_of, Laws.Encoding.steps_long}
 use Rattle.steps.specs.{Translating.steps_of, Translating.room_for, Translating.writes_or, Translating.after_table, Translating.translates}
 use Rattle.steps.specs.{Translating.room_after, Translating.room_left, Running.runs, Window.translated_well_formed, Window.window-runs, AnyList.window_any}
+use Rattle.words.specs.{declared.refusal.Refusal.Refusal}
+use Rattle.table.specs.{declared.answer.Accepted.Accepted}
+use Rattle.needed.specs.{Outcome.needs}
+use Rattle.table.specs.{Outcome.accepts}
+use Rattle.words.specs.declared.refusal.Refusal.TheVariants as Refusal
 
 -- ---- the start of the room is what was written
 
-pub counted : (a : Answer) (short : Bool) (place m n : ℕ) → after_table a (cond short (Refuses (refusal 10 place)) (Writes m)) ≡ Writes n → m ≡ n
+pub counted : (a : Result Accepted Refusal) (short : Bool) (place m n : ℕ) → after_table a (cond short (Err (Refusal.Room place)) (Ok m)) ≡ Ok n → m ≡ n
 unfolding after_table
-counted (Refused why) short place m n e = absurd (let z : ◌≡◌ {A = ℕ} 0 1 = cc in omega arith)
-counted (Accepted nodes rows) true place m n e = absurd (let z : ◌≡◌ {A = ℕ} 0 1 = cc in omega arith)
-counted (Accepted nodes rows) false place m n e = cc
+counted (Err why) short place m n e = absurd (let z : ◌≡◌ {A = ℕ} 0 1 = cc in omega arith)
+counted (Ok accepted) true place m n e = absurd (let z : ◌≡◌ {A = ℕ} 0 1 = cc in omega arith)
+counted (Ok accepted) false place m n e = cc
 
-pub written_there : (t : List ℕ) (tree : Tree) (room : List ℕ) (used : ℕ) → translates t tree room ≡ Writes used
+pub written_there : (t : List ℕ) (tree : Tree) (room : List ℕ) (used : ℕ) → translates t tree room ≡ Ok used
     → take (16 * used) (room_left t tree room) ≡ bytes_of (steps_of t (tree_number tree))
 unfolding translates writes_or room_left room_after
 written_there t tree room used e =
     let xs = steps_of t (tree_number tree) in
     let short = ltb (length room) (room_for t (tree_number tree)) in
     let m : length xs ≡ used = counted (checked t) short (3 + tree_number tree) (length xs) used e in
-    let left : room_after (Writes used) (bytes_of xs) room ≡ bytes_of xs ++ drop (length (bytes_of xs)) room = refl in
+    let left : room_after (Ok used) (bytes_of xs) room ≡ bytes_of xs ++ drop (length (bytes_of xs)) room = refl in
     simp e (take_at (bytes_of xs) (drop (length (bytes_of xs)) room) (16 * used) (steps_long xs ∙ omega (arith, m)))
 
 -- ---- what an answered depth tells
@@ -40,23 +45,23 @@ written_there t tree room used e =
 pub record Deep (t : List ℕ) (lookback D : ℕ) : Type 0 where
   pub nodes : ℕ
   pub rows : ℕ
-  pub accepted : checked t ≡ Accepted nodes rows
+  pub accepted : checked t ≡ accepts nodes rows
   pub near : lookback ≤ most_reach
   pub is : D ≡ depth_of t lookback
 
 module _ (t : List ℕ) (lookback D row window : ℕ) where
-  told : (a : Answer) (far : Bool) → checked t ≡ a → ltb most_reach lookback ≡ far → depth_answer a t lookback ≡ Needs D row window → Deep t lookback D
+  told : (a : Result Accepted Refusal) (far : Bool) → checked t ≡ a → ltb most_reach lookback ≡ far → depth_answer a t lookback ≡ needs D row window → Deep t lookback D
   unfolding depth_answer
-  told (Refused why) far e f d = absurd (let z : ◌≡◌ {A = ℕ} 0 1 = cc in omega arith)
-  told (Accepted n r) true e f d = absurd (let z : ◌≡◌ {A = ℕ} 0 1 = cc (f, d) in omega arith)
-  told (Accepted n r) false e f d = record { nodes = n; rows = r; accepted = e; near = ltb-false most_reach lookback f; is = cc (f, d) }
+  told (Err why) far e f d = absurd (let z : ◌≡◌ {A = ℕ} 0 1 = cc in omega arith)
+  told (Ok accepted) true e f d = absurd (let z : ◌≡◌ {A = ℕ} 0 1 = cc (f, d) in omega arith)
+  told (Ok accepted) false e f d = record { nodes = accepted.nodes; rows = accepted.rows; accepted = e; near = ltb-false most_reach lookback f; is = cc (f, d) }
 
-  pub deep : depth_answer (checked t) t lookback ≡ Needs D row window → Deep t lookback D
+  pub deep : depth_answer (checked t) t lookback ≡ needs D row window → Deep t lookback D
   deep = told (checked t) (ltb most_reach lookback) refl refl
 
-module _ (t : List ℕ) (n r : ℕ) (ok : checked t ≡ Accepted n r) (lookback : ℕ) where
+module _ (t : List ℕ) (n r : ℕ) (ok : checked t ≡ accepts n r) (lookback : ℕ) where
   -- every lookback up to 4,095 is answered, with D rows
-  pub depth_answers : lookback ≤ most_reach → depth_answer (checked t) t lookback ≡ Needs (depth_of t lookback) (row_bytes t) (depth_of t lookback * row_bytes t)
+  pub depth_answers : lookback ≤ most_reach → depth_answer (checked t) t lookback ≡ needs (depth_of t lookback) (row_bytes t) (depth_of t lookback * row_bytes t)
   unfolding depth_answer
   depth_answers l = rw (ok, le-ltb most_reach lookback l)
 
@@ -89,12 +94,12 @@ module _ (t : List ℕ) (n r : ℕ) (ok : checked t ≡ Accepted n r) (lookback 
 -- refused, the run of those steps over the last D rows refuses nothing, answers what the tree means over ALL rows, and
 -- reports the visits that the run over all rows makes.
 pub demand_three : (t : List ℕ) → Bytes t
-    → (lookback D row window : ℕ) → depth_answer (checked t) t lookback ≡ Needs D row window
-    → (tree : Tree) (room : List ℕ) (used : ℕ) → translates t tree room ≡ Writes used
+    → (lookback D row window : ℕ) → depth_answer (checked t) t lookback ≡ needs D row window
+    → (tree : Tree) (room : List ℕ) (used : ℕ) → translates t tree room ≡ Ok used
     → (ws : List ℕ) → whole_rows (slots t) ws ≡ true
     → (s : PositionState) → state_right s ≡ true
     → runs (take (16 * used) (room_left t tree room)) (last_rows (slots t) D ws) (slots t) D s
-    ≡ Runs (record {
+    ≡ Ok (record {
       answer = says (history_of (slots t) ws) s (tree_of t (tree_number tree));
       visits = visits_of (history_of (slots t) ws) s (ops_of (take (16 * used) (room_left t tree room)));
     })

@@ -1,8 +1,8 @@
 -- The step machine: what a step does, what a run is and which places it visits. Definitions only.
-use Rattle.std.specs.Prelude.{ℕ, zero, suc, ◌+◌, ◌-◌, Bool, true, false, not, cond, List, [], ◌∷◌, get_or, drop, ltb}
+use Rattle.std.specs.Prelude.{ℕ, zero, suc, ◌+◌, ◌-◌, Bool, true, false, not, cond, List, [], ◌∷◌, get_or, drop, ltb, Float, None, Option}
 use Rattle.rows.specs.{History.History}
 use Rattle.table.specs.{Trees.Operand, Trees.const, Trees.ref, Trees.price, Trees.extreme, Trees.in_position, Trees.bars_since}
-use Rattle.rules.specs.{declared.position.PositionState.PositionState, declared.values.Value.Value, declared.values.Value.TheVariants.Missing, Values.combined}
+use Rattle.rules.specs.{declared.position.PositionState.PositionState, Values.combined}
 use Rattle.rules.specs.{Values.compared, Values.crossed, Values.within, Meaning.value, Meaning.holds, Meaning.newest}
 use Rattle.steps.specs.{declared.machine.Ran.Ran, declared.step.Op.Op, declared.step.Op.TheVariants.Const, declared.step.Op.TheVariants.Ref}
 use Rattle.steps.specs.{declared.step.Op.TheVariants.Price, declared.step.Op.TheVariants.Arith, declared.step.Op.TheVariants.Compare}
@@ -15,12 +15,12 @@ use Rattle.std.specs.Bool.{beq}
 
 -- The machine has one answer and holds values, the last first.
 pub record Values : Type 0 where
-  pub stack : List Value
+  pub stack : List (Option Float)
   pub answer : Bool
 
 -- "a value not there counts as missing": the value j places below the last.
-abbrev pub nth : List Value → ℕ → Value
-nth vs j = get_or vs j Missing
+abbrev pub nth : List (Option Float) → ℕ → Option Float
+nth vs j = get_or vs j None
 
 -- At first there is no value, and the answer is no: "An empty list answers no".
 abbrev pub start : Values
@@ -32,35 +32,35 @@ start = record { stack = []; answer = false }
 pub record Effect : Type 0 where
   pub take : ℕ
   pub gives : Bool
-  pub value : Value
+  pub value : Option Float
   pub answer : Bool
   pub skip : ℕ
   pub visits : ℕ
 
 -- An operand n rows before the newest, missing where there are not more than n rows.
-unfoldable pub ago : History → Operand → ℕ → Value
-ago h a n = cond (ltb n h.rows) (value h a (newest h - n)) Missing
+unfoldable pub ago : History → Operand → ℕ → Option Float
+ago h a n = cond (ltb n h.rows) (value h a (newest h - n)) None
 
 -- Takes m values and gives one, the answer as it was.
-abbrev pub giving : ℕ → Value → Bool → Effect
+abbrev pub giving : ℕ → Option Float → Bool → Effect
 giving m v y = record { take = m; gives = true; value = v; answer = y; skip = 0; visits = 1 }
 
 -- "Such a step counts n visits" (request 8): a look over n rows takes no value and gives one. One visit where n is 0: no well-formed list
 -- has such a step.
-abbrev pub viewing : ℕ → Value → Bool → Effect
+abbrev pub viewing : ℕ → Option Float → Bool → Effect
 viewing n v y = record { take = 0; gives = true; value = v; answer = y; skip = 0; visits = 1 + (n - 1) }
 
 -- Takes m values and answers.
 abbrev pub saying : ℕ → Bool → Effect
-saying m y = record { take = m; gives = false; value = Missing; answer = y; skip = 0; visits = 1 }
+saying m y = record { take = m; gives = false; value = None; answer = y; skip = 0; visits = 1 }
 
 -- Passes over n steps, the answer as it was.
 abbrev pub passing : ℕ → Bool → Effect
-passing n y = record { take = 0; gives = false; value = Missing; answer = y; skip = n; visits = 1 }
+passing n y = record { take = 0; gives = false; value = None; answer = y; skip = n; visits = 1 }
 
 -- "What a step does depends on its own 16 bytes, the rows, the position state and the values so far": a, b, c, d are the last four
 -- values, the last first, and y is the answer so far.
-unfoldable pub effect : History → PositionState → Op → Value → Value → Value → Value → Bool → Effect
+unfoldable pub effect : History → PositionState → Op → Option Float → Option Float → Option Float → Option Float → Bool → Effect
 effect h s (Const bits n) a b c d y = giving 0 (ago h (const bits) n) y
 effect h s (Ref k n) a b c d y = giving 0 (ago h (ref k) n) y
 effect h s (Price p n) a b c d y = giving 0 (ago h (price p) n) y
@@ -81,7 +81,7 @@ does h s x v =
     effect h s x (nth v.stack 0) (nth v.stack 1) (nth v.stack 2) (nth v.stack 3) v.answer
 
 -- one value more, or none
-abbrev pub given : Bool → Value → List Value → List Value
+abbrev pub given : Bool → Option Float → List (Option Float) → List (Option Float)
 given true v vs = v ∷ vs
 given false v vs = vs
 

@@ -1,14 +1,14 @@
 -- "a value not there counts as missing", and every value is kept: a well_formed list that holds 65 values at once, from elsewhere.
-use Rattle.std.specs.Prelude.{ℕ, zero, suc, ◌+◌, ◌-◌, ◌≤◌, ◌≡◌, refl, Bool, true, false, cond, List, [], ◌∷◌, ltb}
+use Rattle.std.specs.Prelude.{ℕ, zero, suc, ◌+◌, ◌-◌, ◌≤◌, ◌≡◌, refl, Bool, true, false, cond, List, [], ◌∷◌, ltb, None, Ok, Some}
 use Rattle.words.specs.Prelude.{arith, le-ltb}
 use Rattle.words.specs.{Limits.most_slots, Limits.most_rows}
 use Rattle.floats.specs.{Floats.float_of}
 use Rattle.rows.specs.{History.History, History.history_of, History.whole_rows}
 use Rattle.table.specs.{Trees.const}
-use Rattle.rules.specs.{declared.position.PositionState.PositionState, declared.values.Value.TheVariants.Missing, declared.values.Value.TheVariants.Number}
+use Rattle.rules.specs.{declared.position.PositionState.PositionState}
 use Rattle.rules.specs.{Values.tested, Values.compared, Meaning.newest, Meaning.there, Meaning.value, Answers.state_right}
 use Rattle.steps.specs.{declared.step.Op.Op, declared.step.Op.TheVariants.Const, declared.step.Op.TheVariants.Compare}
-use Rattle.steps.specs.{declared.running.RunAnswer.TheVariants.Runs, Bytes.is_comparison, Bytes.bytes_of, Machine.Values, Machine.ago, Machine.effect}
+use Rattle.steps.specs.{Bytes.is_comparison, Bytes.bytes_of, Machine.Values, Machine.ago, Machine.effect}
 use Rattle.steps.specs.{Machine.does, Machine.after_step, Machine.run, Machine.visit_count, Machine.start, Running.ran_if, Running.runs}
 use Rattle.steps.specs.{Laws.TranslatedSteps.FieldsRight, Laws.TranslatedSteps.AllFieldsRight, Laws.WrittenSteps.well_formed}
 use Rattle.steps.specs.{Laws.WrittenSteps.reads_back}
@@ -38,8 +38,8 @@ module _ (h : History) (s : PositionState) where
   unfolding ago value there newest compared tested five three Ieee.lt Ieee.of_bits
   not-below = go (ltb 0 h.rows) (ltb (h.rows - 1 - 0) h.rows)
     where
-      go : (t u : Bool) → compared 17 (cond t (cond u (Number (float_of five)) Missing) Missing)
-          (cond t (cond u (Number (float_of three)) Missing) Missing) ≡ false
+      go : (t u : Bool) → compared 17 (cond t (cond u (Some (float_of five)) None) None)
+          (cond t (cond u (Some (float_of three)) None) None) ≡ false
       go true true = refl
       go true false = refl
       go false u = refl
@@ -63,7 +63,7 @@ module _ (K D : ℕ) (deep : 1 ≤ D) where
 
   -- Run over any rows it answers no, since 5 < 3 is no. (A machine of 64 places would lose the 3, and find 0 < 5.)
   pub many_values : K ≤ most_slots → D ≤ most_rows → (ws : List ℕ) (s : PositionState) → whole_rows K ws ≡ true → state_right s ≡ true
-      → runs (bytes_of five_below_three) ws K D s ≡ Runs (record { answer = false; visits = 66 })
+      → runs (bytes_of five_below_three) ws K D s ≡ Ok (record { answer = false; visits = 66 })
   unfolding runs ran_if five_below_three
   many_values few most ws s whole fine =
       rw (

@@ -1,25 +1,25 @@
 -- A run with so many places for values, for the code alone: the machine of Machine.antt has no end of them. Definitions only.
-use Rattle.std.specs.Prelude.{ℕ, ◌+◌, ◌-◌, ◌*◌, ◌<◌, ◌≤◌, ◌≡◌, Bool, true, false, cond, List, [], Float, ltb, length, get_or, replicate, set}
+use Rattle.std.specs.Prelude.{ℕ, ◌+◌, ◌-◌, ◌*◌, ◌<◌, ◌≤◌, ◌≡◌, Bool, true, false, cond, List, [], Float, ltb, length, get_or, replicate, set, None, Option, Some}
 use Rattle.words.specs.Prelude.{nan}
 use Rattle.rows.specs.{History.History}
-use Rattle.rules.specs.{declared.position.PositionState.PositionState, declared.values.Value.Value, declared.values.Value.TheVariants.Missing}
-use Rattle.rules.specs.{declared.values.Value.TheVariants.Number, Values.crossed, Values.within}
+use Rattle.rules.specs.{declared.position.PositionState.PositionState}
+use Rattle.rules.specs.{Values.crossed, Values.within}
 use Rattle.steps.specs.{declared.machine.Ran.Ran, Bytes.op_of, Bytes.step_at, Bytes.ops_from, Machine.Values, Machine.giving, Machine.effect, Machine.run}
 use Rattle.steps.specs.{Machine.visit_count, Machine.start}
 use Rattle.table.specs.Named as Named
 
 -- A value as two: its number, which is written where there is one, and whether it is there.
-unfoldable pub numbers_with : List Float → ℕ → Value → List Float
-numbers_with numbers i Missing = numbers
-numbers_with numbers i (Number x) = set numbers i x
+unfoldable pub numbers_with : List Float → ℕ → Option Float → List Float
+numbers_with numbers i None = numbers
+numbers_with numbers i (Some x) = set numbers i x
 
-unfoldable pub is_there : Value → Bool
-is_there Missing = false
-is_there (Number x) = true
+unfoldable pub is_there : Option Float → Bool
+is_there None = false
+is_there (Some x) = true
 
 -- The value at place i of two such lists.
-unfoldable pub value_at : List Float → List Bool → ℕ → Value
-value_at numbers there i = cond (get_or there i false) (Number (get_or numbers i nan)) Missing
+unfoldable pub value_at : List Float → List Bool → ℕ → Option Float
+value_at numbers there i = cond (get_or there i false) (Some (get_or numbers i nan)) None
 
 -- What a cross or Between answers of the last values, the last at place top + 3, by its kind.
 abbrev pub tested_at : ℕ → List Float → List Bool → ℕ → Bool
@@ -40,19 +40,19 @@ Tries ran steps places false r = r ≡ ran
 
 -- ---- a run that is on its way
 
-abbrev pub holding : Bool → List Value → Values
+abbrev pub holding : Bool → List (Option Float) → Values
 holding b vs = record { stack = vs; answer = b }
 
 -- The run of the first n steps of a list has come to place p, with these values, this answer and so many visits.
-pub record Came (h : History) (s : PositionState) (bs : List ℕ) (n : ℕ) (vs : List Value) (y : Bool) (visits p : ℕ) : Type 0 where
+pub record Came (h : History) (s : PositionState) (bs : List ℕ) (n : ℕ) (vs : List (Option Float)) (y : Bool) (visits p : ℕ) : Type 0 where
   pub seen : visits ≤ 65536 * p
   pub on : p ≤ n
   pub same : run h s (ops_from bs 0 n) 0 start ≡ run h s (ops_from bs p (n - p)) 0 (holding y vs)
   pub count : visit_count h s (ops_from bs 0 n) 0 start ≡ visits + visit_count h s (ops_from bs p (n - p)) 0 (holding y vs)
 
 -- The step at place p gives this value, whatever came before it: it is a leaf.
-abbrev pub Gives : History → List ℕ → ℕ → Value → Type 0
-Gives h bs p v = (s : PositionState) (a b c d : Value) (y : Bool) → effect h s (op_of (step_at bs p)) a b c d y ≡ giving 0 v y
+abbrev pub Gives : History → List ℕ → ℕ → Option Float → Type 0
+Gives h bs p v = (s : PositionState) (a b c d : Option Float) (y : Bool) → effect h s (op_of (step_at bs p)) a b c d y ≡ giving 0 v y
 
 -- The steps from place p on, so many of them, are a test with its leaves, and this is its answer; where they are none, nothing is said.
 abbrev pub Tests : History → List ℕ → ℕ → ℕ → ℕ → Bool → Type 0

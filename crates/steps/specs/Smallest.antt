@@ -1,10 +1,10 @@
 -- D cannot be smaller: for each kind that looks back, rows on which the steps answer yes over D = reach + 1 of them and no over one less.
-use Rattle.std.specs.Prelude.{ℕ, ◌+◌, ◌≡◌, refl, Bool, true, false, List, [], ◌∷◌, ◌++◌}
+use Rattle.std.specs.Prelude.{ℕ, ◌+◌, ◌≡◌, refl, Bool, true, false, List, [], ◌∷◌, ◌++◌, None}
 use Rattle.floats.specs.{Floats.zero, Floats.abs}
 use Rattle.rows.specs.{History.history_of, History.last_rows}
 use Rattle.table.specs.{Trees.Operand, Trees.const, Trees.ref, Trees.price, Trees.prev, Trees.Condition, Trees.compare, Trees.cross, Trees.trend, Trees.reach}
 use Rattle.table.specs.{Trees.reach_of}
-use Rattle.rules.specs.{declared.position.PositionState.PositionState, declared.position.Entered.TheVariants.Never, Values.price_of, Values.slot_of}
+use Rattle.rules.specs.{declared.position.PositionState.PositionState, Values.price_of, Values.slot_of}
 use Rattle.rules.specs.{Values.combined, Values.tested, Values.compared, Values.crossed, Meaning.newest, Meaning.there, Meaning.value}
 use Rattle.steps.specs.{Machine.ago, Machine.effect, Machine.does, Machine.after_step, Machine.run, Machine.answers, Translation.code, Translation.code_of}
 use Rattle.std.specs.Float.Ieee as Ieee
@@ -21,7 +21,7 @@ eleven : ℕ
 eleven = 0x4026_0000_0000_0000
 
 flat : PositionState
-flat = record { qty = zero; entered = Never; bars_seen = 1 }
+flat = record { qty = zero; entered = None; bars_seen = 1 }
 
 -- the steps of a condition over the last `rows` of the rows
 over_last : ℕ → List ℕ → Condition → Bool

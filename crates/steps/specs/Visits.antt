@@ -1,9 +1,9 @@
 -- "The definition of a run gives the places visited, in rising order, .. never more than the list holds." And how many visits they count
 -- (request 8): at most the list's length plus the sum of n − 1 over its steps of Highest and Lowest; every other step counts once.
-use Rattle.std.specs.Prelude.{ℕ, zero, suc, ◌+◌, ◌-◌, ◌≤◌, Bool, List, [], ◌∷◌, ◌≡◌, refl, length}
+use Rattle.std.specs.Prelude.{ℕ, zero, suc, ◌+◌, ◌-◌, ◌≤◌, Bool, List, [], ◌∷◌, ◌≡◌, refl, length, Float, Option}
 use Rattle.words.specs.Prelude.{arith}
 use Rattle.rows.specs.{History.History}
-use Rattle.rules.specs.{declared.position.PositionState.PositionState, declared.values.Value.Value}
+use Rattle.rules.specs.{declared.position.PositionState.PositionState}
 use Rattle.steps.specs.{declared.step.Op.Op, declared.step.Op.TheVariants.Const, declared.step.Op.TheVariants.Ref, declared.step.Op.TheVariants.Price}
 use Rattle.steps.specs.{declared.step.Op.TheVariants.Extreme, declared.step.Op.TheVariants.Arith, declared.step.Op.TheVariants.Compare}
 use Rattle.steps.specs.{declared.step.Op.TheVariants.Cross, declared.step.Op.TheVariants.Between, declared.step.Op.TheVariants.Answer}
@@ -42,7 +42,7 @@ all_beyond_one [] = 0
 all_beyond_one (x ∷ xs) = beyond_one x + all_beyond_one xs
 
 module _ (h : History) (s : PositionState) where
-  counts : (x : Op) (a b c d : Value) (y : Bool) → (effect h s x a b c d y).visits ≡ 1 + beyond_one x
+  counts : (x : Op) (a b c d : Option Float) (y : Bool) → (effect h s x a b c d y).visits ≡ 1 + beyond_one x
   unfolding effect beyond_one
   counts (Const bits n) a b c d y = refl
   counts (Ref k n) a b c d y = refl

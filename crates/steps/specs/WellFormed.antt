@@ -1,9 +1,9 @@
 -- Which lists of steps are well formed. Definitions only.
-use Rattle.std.specs.Prelude.{ℕ, zero, suc, ◌+◌, ◌-◌, ◌%◌, Bool, true, false, cond, ◌&&◌, List, length, ltb, leb, eqb}
+use Rattle.std.specs.Prelude.{ℕ, zero, suc, ◌+◌, ◌-◌, ◌%◌, Bool, true, false, cond, ◌&&◌, List, length, ltb, leb, eqb, Err, Ok, Result}
 use Rattle.words.specs.{Limits.most_steps}
 use Rattle.table.specs.{declared.series.Series.Series}
-use Rattle.steps.specs.{declared.step.Step.Step, declared.wellformed.Formed.Formed, declared.wellformed.Formed.TheVariants.Well}
-use Rattle.steps.specs.{declared.wellformed.Formed.TheVariants.Bad, declared.step.Op.Op, declared.step.Op.TheVariants.Const}
+use Rattle.steps.specs.{declared.step.Step.Step}
+use Rattle.steps.specs.{declared.step.Op.Op, declared.step.Op.TheVariants.Const}
 use Rattle.steps.specs.{declared.step.Op.TheVariants.Ref, declared.step.Op.TheVariants.Price, declared.step.Op.TheVariants.Arith}
 use Rattle.steps.specs.{declared.step.Op.TheVariants.Compare, declared.step.Op.TheVariants.Cross, declared.step.Op.TheVariants.Between}
 use Rattle.steps.specs.{declared.step.Op.TheVariants.Answer, declared.step.Op.TheVariants.Turn, declared.step.Op.TheVariants.InPosition}
@@ -64,11 +64,11 @@ unfoldable pub good_step : ℕ → ℕ → ℕ → Step → Bool
 good_step K D after x = unused_fields_zero x (op_of x) && bounded K D after (op_of x)
 
 -- "its lowest bad step", of m steps from place p on
-unfoldable pub formed_from : ℕ → ℕ → List ℕ → ℕ → ℕ → Formed
-formed_from K D bs p zero = Well
-formed_from K D bs p (suc m) = cond (good_step K D m (step_at bs p)) (formed_from K D bs (p + 1) m) (Bad p)
+unfoldable pub formed_from : ℕ → ℕ → List ℕ → ℕ → ℕ → Result (Unit {0}) ℕ
+formed_from K D bs p zero = Ok tt
+formed_from K D bs p (suc m) = cond (good_step K D m (step_at bs p)) (formed_from K D bs (p + 1) m) (Err p)
 
 -- "A list is well formed when it is whole steps, at most 1,024, each of ..": "0 for a bad length"
-unfoldable pub formed : ℕ → ℕ → List ℕ → Formed
+unfoldable pub formed : ℕ → ℕ → List ℕ → Result (Unit {0}) ℕ
 formed K D bs =
-    cond (eqb (length bs % 16) 0) (cond (ltb most_steps (steps_in bs)) (Bad 0) (formed_from K D bs 0 (steps_in bs))) (Bad 0)
+    cond (eqb (length bs % 16) 0) (cond (ltb most_steps (steps_in bs)) (Err 0) (formed_from K D bs 0 (steps_in bs))) (Err 0)

@@ -8,7 +8,6 @@ ghost use Rattle.steps.specs.Machine.{saying, effect};
 use crate::step::Step;
 use rules::position::PositionState;
 use rules::values;
-use rules::values::Value;
 use table::kinds;
 
 // Whether a kind is one from `low` on and below `high`.
@@ -32,7 +31,7 @@ fn position(wanted: bool, qty: f64) -> bool
 pub(crate) fn said(x: Step, s: PositionState, answer: bool) -> bool
     requires { (1 ≤ x.kind → 4 ≤ x.kind) × (is_operation x.kind ≡ false) × (9 ≤ x.kind → 13 ≤ x.kind)
         × (is_test_step x.kind ≡ false) × (32 ≤ x.kind → 34 ≤ x.kind) }
-    ensures { (h : History) (a b c d : Value) → effect h s (op_of x) a b c d answer ≡ saying 0 result }
+    ensures { (h : History) (a b c d : Option Float) → effect h s (op_of x) a b c d answer ≡ saying 0 result }
 {
     if x.kind < kinds::ALL {
         return answer;

@@ -1,10 +1,9 @@
 // Leaves: what a step gives that takes no value. Most are read from a row that is there and that has what they name: these are told at
 // once, with no test of where a word lies, and the newest row's place is told beforehand.
-ghost use Rattle.std.specs.Prelude.{◌≡◌, Bool, true, ◌+◌, ◌-◌, ◌*◌, ◌<◌, ◌≤◌, length};
+ghost use Rattle.std.specs.Prelude.{◌≡◌, Bool, true, ◌+◌, ◌-◌, ◌*◌, ◌<◌, ◌≤◌, length, Some};
 ghost use Rattle.floats.specs.Floats.{float_of};
 ghost use Rattle.rows.specs.History.{History, history_of};
 ghost use Rattle.rows.specs.Ring.{ring_place, ring_of};
-ghost use Rattle.rules.specs.declared.values.Value.TheVariants.{Number};
 ghost use Rattle.rules.specs.Values.{words_from, price_of, slot_of};
 ghost use Rattle.table.specs.Trees.{const, ref, price};
 ghost use Rattle.steps.specs.Bytes.{op_of};
@@ -13,24 +12,23 @@ ghost use Rattle.steps.specs.Machine.{ago, giving, effect};
 use crate::step::Step;
 use rules::position::PositionState;
 use rules::values;
-use rules::values::Value;
 use table::kinds;
 
 // A leaf that is told at once, and its value; or a step that is not told.
 #[derive(Clone, Copy)]
 pub(crate) struct AtOnce {
     pub told: bool,
-    pub value: Value,
+    pub value: Option<f64>,
 }
 
 // A constant, `n` rows before the newest of `held` rows: missing where there are not more than n.
-fn const_ago(held: usize, bits: u64, n: u64) -> Value
+fn const_ago(held: usize, bits: u64, n: u64) -> Option<f64>
     ensures { (h : History) → held ≡ h.rows → result ≡ ago h (const bits) n }
 {
     if n < held as u64 {
-        return Value::Number(floats::float_of(bits));
+        return Some(floats::float_of(bits));
     }
-    Value::Missing
+    None
 }
 
 // The word where the row begins that stands `n` rows before the newest of `held` rows. They begin at row `first`, so the newest is
@@ -47,36 +45,36 @@ fn row_ago(rows: &[u64], slots: usize, held: usize, first: usize, n: u64) -> usi
 }
 
 // A slot, n rows back.
-fn ref_ago(rows: &[u64], slots: usize, held: usize, first: usize, slot: u8, n: u64) -> Value
+fn ref_ago(rows: &[u64], slots: usize, held: usize, first: usize, slot: u8, n: u64) -> Option<f64>
     requires { (held ≡ (history_of slots rows.now).rows) × (first ≤ held) }
     ensures { result ≡ ago (ring_of slots first rows.now) (ref slot) n }
 {
     if n < held as u64 {
         return values::slot_at(rows, row_ago(rows, slots, held, first, n), slot as u64);
     }
-    Value::Missing
+    None
 }
 
 // A price, n rows back.
-fn price_ago(rows: &[u64], slots: usize, held: usize, first: usize, selector: u8, n: u64) -> Value
+fn price_ago(rows: &[u64], slots: usize, held: usize, first: usize, selector: u8, n: u64) -> Option<f64>
     requires { (held ≡ (history_of slots rows.now).rows) × (first ≤ held) }
     ensures { result ≡ ago (ring_of slots first rows.now) (price selector) n }
 {
     if n < held as u64 {
-        return Value::Number(values::price_at(
+        return Some(values::price_at(
             rows,
             row_ago(rows, slots, held, first, n),
             selector,
         ));
     }
-    Value::Missing
+    None
 }
 
 // The value that a leaf gives, of whatever row.
-fn leaf_ago(x: Step, rows: &[u64], slots: usize, held: usize, first: usize) -> Value
+fn leaf_ago(x: Step, rows: &[u64], slots: usize, held: usize, first: usize) -> Option<f64>
     requires held_value { (held ≡ (history_of slots rows.now).rows) × (first ≤ held) }
     requires le_kind { (1 ≤ x.kind) × (x.kind < 4) }
-    ensures { (s : PositionState) (a b c d : Value) (y : Bool)
+    ensures { (s : PositionState) (a b c d : Option Float) (y : Bool)
         → effect (ring_of slots first rows.now) s (op_of x) a b c d y ≡ giving 0 result y }
 {
     if x.kind == kinds::CONST {
@@ -122,13 +120,13 @@ fn field_in(rows: &[u64], base: usize, j: usize) -> f64
 // A price of that row, told at once where the row holds it.
 fn field_at_once(rows: &[u64], base: usize, selector: u8) -> AtOnce
     requires { base + 7 ≤ length rows.now }
-    ensures { result.told ≡ true → result.value ≡ Number (price_of (words_from rows.now base) selector) }
+    ensures { result.told ≡ true → result.value ≡ Some (price_of (words_from rows.now base) selector) }
 {
     if selector < 5 {
-        let value = Value::Number(field_in(rows, base, selector as usize + 1));
+        let value = Some(field_in(rows, base, selector as usize + 1));
         return AtOnce { told: true, value };
     }
-    let value = Value::Missing;
+    let value = None;
     AtOnce { told: false, value }
 }
 
@@ -151,15 +149,15 @@ pub(crate) fn price_in(rows: &[u64], base: usize, selector: u8) -> f64
 }
 
 // A slot of that row, which has it.
-pub(crate) fn slot_in(rows: &[u64], base: usize, slot: u64) -> Value
+pub(crate) fn slot_in(rows: &[u64], base: usize, slot: u64) -> Option<f64>
     requires { (base + 7 + slot < length rows.now) × (slot < 64) }
     ensures { result ≡ slot_of (words_from rows.now base) slot }
 {
     let mask = rows[base + words::places::BAR_MASK];
     if (mask >> slot) % 2 == 1 {
-        Value::Number(field_in(rows, base, words::limits::ROW_FIXED + slot as usize))
+        Some(field_in(rows, base, words::limits::ROW_FIXED + slot as usize))
     } else {
-        Value::Missing
+        None
     }
 }
 
@@ -174,7 +172,7 @@ fn slot_at_once(rows: &[u64], slots: usize, base: usize, slot: u8) -> AtOnce
             return AtOnce { told: true, value };
         }
     }
-    let value = Value::Missing;
+    let value = None;
     AtOnce { told: false, value }
 }
 
@@ -189,12 +187,12 @@ pub(crate) fn leaf_at_once(
 ) -> AtOnce
     requires held_value { (held ≡ (history_of slots rows.now).rows) × (first ≤ held) }
     requires newest_value { newest ≡ ring_place held first (held - 1) * (7 + slots) }
-    ensures { result.told ≡ true → (s : PositionState) (a b c d : Value) (y : Bool)
+    ensures { result.told ≡ true → (s : PositionState) (a b c d : Option Float) (y : Bool)
         → effect (ring_of slots first rows.now) s (op_of x) a b c d y ≡ giving 0 result.value y }
 {
     if x.n < held as u64 {
         if x.kind == kinds::CONST {
-            let value = Value::Number(floats::float_of(x.bits));
+            let value = Some(floats::float_of(x.bits));
             return AtOnce { told: true, value };
         }
         let base = row_back(rows, slots, held, first, newest, x.n);
@@ -205,7 +203,7 @@ pub(crate) fn leaf_at_once(
             return slot_at_once(rows, slots, base, x.selector);
         }
     }
-    let value = Value::Missing;
+    let value = None;
     AtOnce { told: false, value }
 }
 
@@ -217,11 +215,11 @@ pub(crate) fn leaf(
     held: usize,
     first: usize,
     newest: usize,
-) -> Value
+) -> Option<f64>
     requires held_value { (held ≡ (history_of slots rows.now).rows) × (first ≤ held) }
     requires newest_value { newest ≡ ring_place held first (held - 1) * (7 + slots) }
     requires le_kind { (1 ≤ x.kind) × (x.kind < 4) }
-    ensures { (s : PositionState) (a b c d : Value) (y : Bool)
+    ensures { (s : PositionState) (a b c d : Option Float) (y : Bool)
         → effect (ring_of slots first rows.now) s (op_of x) a b c d y ≡ giving 0 result y }
 {
     let at_once = leaf_at_once(x, rows, slots, held, first, newest);

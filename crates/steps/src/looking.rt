@@ -1,12 +1,11 @@
 // Highest and Lowest: a look over rows one after the other, the oldest first. Floats that are finite and not negative stand in the order of
 // their words, and most are: these are compared as words, with no float made of them, as far as the rows lie one after the other. Any other
 // row is read as what it is. Most rows are no better than the best before them, and are passed over.
-ghost use Rattle.std.specs.Prelude.{◌≡◌, true, false, ℕ, ◌+◌, ◌-◌, ◌*◌, ◌<◌, ◌≤◌, min, length};
+ghost use Rattle.std.specs.Prelude.{◌≡◌, true, false, ℕ, ◌+◌, ◌-◌, ◌*◌, ◌<◌, ◌≤◌, min, length, Some};
 ghost use Rattle.floats.specs.Floats.{float_of};
 ghost use Rattle.rows.specs.History.{history_of};
 ghost use Rattle.rows.specs.Ring.{ring_of};
 ghost use Rattle.table.specs.Trees.{extreme};
-ghost use Rattle.rules.specs.declared.values.Value.TheVariants.{Number};
 ghost use Rattle.rules.specs.Values.{words_from};
 ghost use Rattle.rules.specs.Meaning.{series_at, extreme_over};
 ghost use Rattle.steps.specs.Machine.{ago};
@@ -15,11 +14,10 @@ ghost use Rattle.steps.specs.Looks.{over_of, of_row, place_of, InRow, best_after
 use crate::leaves;
 use rows::ring;
 use rules::values;
-use rules::values::Value;
 use table::kinds;
 
 // A price or a slot of the row that begins at word `base`, which has it.
-fn series_in(rows: &[u64], slots: usize, base: usize, slot: bool, which: u8) -> Value
+fn series_in(rows: &[u64], slots: usize, base: usize, slot: bool, which: u8) -> Option<f64>
     requires slots_in_bounds { base + (7 + slots) ≤ length rows.now }
     requires which_lt_slots { slot ≡ true → (which < slots) × (which < 64) }
     ensures { result ≡ of_row (over_of slot which) (words_from rows.now base) }
@@ -27,7 +25,7 @@ fn series_in(rows: &[u64], slots: usize, base: usize, slot: bool, which: u8) -> 
     if slot {
         return leaves::slot_in(rows, base, which as u64);
     }
-    Value::Number(leaves::price_in(rows, base, which))
+    Some(leaves::price_in(rows, base, which))
 }
 
 // How many rows were passed over, and what the row after them has, if it is what stopped it.
@@ -35,11 +33,11 @@ fn series_in(rows: &[u64], slots: usize, base: usize, slot: bool, which: u8) -> 
 struct Stop {
     passed: usize,
     stopped: bool,
-    later: Value,
+    later: Option<f64>,
 }
 
 // Row k stops it, with what it has.
-fn stopped_at(k: usize, later: Value) -> Stop
+fn stopped_at(k: usize, later: Option<f64>) -> Stop
     ensures { (result.passed ≡ k) × (result.stopped ≡ true) × (result.later ≡ later) }
 {
     Stop {
@@ -70,10 +68,10 @@ fn pass_rows(
     for k in 0..count {
         let found = series_in(rows, slots, at, slot, which);
         match found {
-            Value::Missing => {
+            None => {
                 return stopped_at(k, found);
             }
-            Value::Number(x) => {
+            Some(x) => {
                 if kind == kinds::HIGHEST {
                     if best < x {
                         return stopped_at(k, found);
@@ -85,7 +83,7 @@ fn pass_rows(
             }
         }
     }
-    let later = Value::Missing;
+    let later = None;
     Stop {
         passed: count,
         stopped: false,
@@ -128,7 +126,7 @@ fn series_at(
     slot: bool,
     which: u8,
     i: usize,
-) -> Value
+) -> Option<f64>
     requires { (held ≡ (history_of slots rows.now).rows) × (first ≤ held) × (i < held) }
     ensures { result ≡ series_at (ring_of slots first rows.now) (over_of slot which) i }
 {
@@ -136,7 +134,7 @@ fn series_at(
     if slot {
         return values::slot_at(rows, base, which as u64);
     }
-    Value::Number(values::price_at(rows, base, which))
+    Some(values::price_at(rows, base, which))
 }
 
 // The rows after row `at` that are passed over, up to `newest` or the words' end.
@@ -154,8 +152,8 @@ fn passed_from(
 ) -> Stop
     requires { (held ≡ (history_of slots rows.now).rows) × (first ≤ held) × (at < newest) × (newest < held) }
     ensures { (at + result.passed ≤ newest) × ((oldest : ℕ) → oldest ≤ at
-        → Number best ≡ extreme_over (ring_of slots first rows.now) kind (over_of slot which) oldest (at - oldest)
-        → Number best ≡ extreme_over (ring_of slots first rows.now) kind (over_of slot which) oldest (at + result.passed - oldest))
+        → Some best ≡ extreme_over (ring_of slots first rows.now) kind (over_of slot which) oldest (at - oldest)
+        → Some best ≡ extreme_over (ring_of slots first rows.now) kind (over_of slot which) oldest (at + result.passed - oldest))
         × (result.stopped ≡ true → (at + result.passed < newest)
         × (result.later ≡ series_at (ring_of slots first rows.now) (over_of slot which) (at + result.passed + 1)))
         × (result.stopped ≡ false → 1 ≤ result.passed) }
@@ -196,7 +194,7 @@ fn place_of(slot: bool, which: u8) -> usize
 fn has_word(rows: &[u64], slots: usize, base: usize, slot: bool, which: u8) -> bool
     requires { (base + (7 + slots) ≤ length rows.now) × InRow slots slot which }
     ensures { result ≡ true → of_row (over_of slot which) (words_from rows.now base)
-        ≡ Number (float_of (words_from rows.now base (place_of slot which))) }
+        ≡ Some (float_of (words_from rows.now base (place_of slot which))) }
 {
     if slot {
         let mask = rows[base + words::places::BAR_MASK];
@@ -225,8 +223,8 @@ fn quick_rows(
     start: u64,
 ) -> Quick
     requires { (base + count * (7 + slots) ≤ length rows.now) × InRow slots slot which × (start < 0x7ff0_0000_0000_0000) }
-    ensures { (result.left ≤ count) × (Number (float_of result.best)
-        ≡ best_after kind (over_of slot which) rows.now slots base (Number (float_of start)) (count - result.left)) }
+    ensures { (result.left ≤ count) × (Some (float_of result.best)
+        ≡ best_after kind (over_of slot which) rows.now slots base (Some (float_of start)) (count - result.left)) }
 {
     let place = place_of(slot, which);
     let mut best = start;
@@ -277,8 +275,8 @@ fn quick_from(
 ) -> Looked
     requires { (held ≡ (history_of slots rows.now).rows) × (first ≤ held) × (at < newest) × (newest < held) }
     ensures { (result.at ≤ newest) × ((oldest : ℕ) → oldest ≤ at
-        → Number best ≡ extreme_over (ring_of slots first rows.now) kind (over_of slot which) oldest (at - oldest)
-        → Number result.best ≡ extreme_over (ring_of slots first rows.now) kind (over_of slot which) oldest (result.at - oldest)) }
+        → Some best ≡ extreme_over (ring_of slots first rows.now) kind (over_of slot which) oldest (at - oldest)
+        → Some result.best ≡ extreme_over (ring_of slots first rows.now) kind (over_of slot which) oldest (result.at - oldest)) }
 {
     if in_row(slots, slot, which) {
         let word = floats::word_of(best);
@@ -308,9 +306,9 @@ fn best_over(
     start: f64,
     oldest: usize,
     last: usize,
-) -> Value
+) -> Option<f64>
     requires held_value { (held ≡ (history_of slots rows.now).rows) × (first ≤ held) × (oldest ≤ last) × (last < held) }
-    requires start_value { Number start ≡ series_at (ring_of slots first rows.now) (over_of slot which) oldest }
+    requires start_value { Some start ≡ series_at (ring_of slots first rows.now) (over_of slot which) oldest }
     ensures { result ≡ extreme_over (ring_of slots first rows.now) kind (over_of slot which) oldest (last - oldest) }
 {
     let mut best = start;
@@ -327,17 +325,17 @@ fn best_over(
                 at += 1;
                 let later = stop.later;
                 match later {
-                    Value::Missing => {
-                        return Value::Missing;
+                    None => {
+                        return None;
                     }
-                    Value::Number(x) => {
+                    Some(x) => {
                         best = values::took(kind, best, x);
                     }
                 }
             }
         }
     }
-    Value::Number(best)
+    Some(best)
 }
 
 // The same, whatever the oldest row has.
@@ -351,14 +349,14 @@ fn extreme_over(
     which: u8,
     oldest: usize,
     newest: usize,
-) -> Value
+) -> Option<f64>
     requires { (held ≡ (history_of slots rows.now).rows) × (first ≤ held) × (oldest ≤ newest) × (newest < held) }
     ensures { result ≡ extreme_over (ring_of slots first rows.now) kind (over_of slot which) oldest (newest - oldest) }
 {
     let start = series_at(rows, slots, held, first, slot, which, oldest);
     match start {
-        Value::Missing => Value::Missing,
-        Value::Number(x) => {
+        None => None,
+        Some(x) => {
             best_over(
                 kind, rows, slots, held, first, slot, which, x, oldest, newest,
             )
@@ -377,17 +375,17 @@ pub(crate) fn extreme_ago(
     which: u8,
     n: u64,
     back: u64,
-) -> Value
+) -> Option<f64>
     requires { (held ≡ (history_of slots rows.now).rows) × (first ≤ held) }
     ensures { result ≡ ago (ring_of slots first rows.now) (extreme kind (over_of slot which) n) back }
 {
     if held as u64 <= back {
-        return Value::Missing;
+        return None;
     }
     let newest = held - 1 - back as usize;
     let rest = n.saturating_sub(1);
     if (newest as u64) < rest {
-        return Value::Missing;
+        return None;
     }
     let oldest = newest - rest as usize;
     extreme_over(kind, rows, slots, held, first, slot, which, oldest, newest)

@@ -13,7 +13,6 @@ use crate::{decode, doing, leaves, looking, phrases, stack};
 use rows::ring;
 use rules::position::PositionState;
 use rules::values;
-use rules::values::Value;
 use table::kinds;
 use words::limits::MOST_STEPS;
 
@@ -40,10 +39,10 @@ struct Tried {
 }
 
 // The value that a step of Highest or Lowest gives.
-fn look(x: Step, rows: &[u64], slots: usize, held: usize, first: usize) -> Value
+fn look(x: Step, rows: &[u64], slots: usize, held: usize, first: usize) -> Option<f64>
     requires held_value { (held ≡ (history_of slots rows.now).rows) × (first ≤ held) }
     requires le_kind { (9 ≤ x.kind) × (x.kind < 13) }
-    ensures { (s : PositionState) (a b c d : Value) (y : Bool)
+    ensures { (s : PositionState) (a b c d : Option Float) (y : Bool)
         → effect (ring_of slots first rows.now) s (op_of x) a b c d y ≡ viewing x.skip result y }
 {
     let back = decode::newest_back(x.n, x.skip);

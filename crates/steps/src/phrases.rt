@@ -11,7 +11,6 @@ use crate::leaves::AtOnce;
 use crate::{decode, doing, leaves};
 use rules::position::PositionState;
 use rules::values;
-use rules::values::Value;
 use table::kinds;
 
 // A test with its leaves: how many steps they are, and what it answers. 0 where there is none.
@@ -52,8 +51,8 @@ fn cross_at(
     list: &[u8],
     n: usize,
     p: usize,
-    a: Value,
-    b: Value,
+    a: Option<f64>,
+    b: Option<f64>,
     rows: &[u64],
     slots: usize,
     held: usize,

@@ -3,19 +3,11 @@ ghost use Rattle.std.specs.Prelude.{◌≡◌};
 ghost use Rattle.steps.specs.Running.{runs};
 
 use crate::machine::Ran;
-use crate::wellformed::Formed;
 use crate::{machine, wellformed};
 use rules::answers;
 use rules::position::PositionState;
 use words::limits::{MOST_ROWS, MOST_SLOTS};
 use words::refusal::Refusal;
-
-// The answer to a run: what it came to, or the refusal's number and place.
-#[derive(Clone, Copy)]
-pub enum RunAnswer {
-    Runs(Ran),
-    Refuses(Refusal),
-}
 
 // The numbers of these two settings.
 pub const SETTING_SLOTS: u64 = 0;
@@ -23,40 +15,25 @@ pub const SETTING_SLOTS: u64 = 0;
 pub const SETTING_DEPTH: u64 = 1;
 
 // Runs a list over rows of `slots` slots, with a window of `depth` rows.
-pub fn run(list: &[u8], rows: &[u64], slots: usize, depth: usize, s: PositionState) -> RunAnswer
+pub fn run(list: &[u8], rows: &[u64], slots: usize, depth: usize, s: PositionState) -> Result<Ran, Refusal>
     ensures { result ≡ runs list.now rows.now slots depth s }
 {
     if MOST_SLOTS < slots {
-        return RunAnswer::Refuses(Refusal {
-            number: 12,
-            place: SETTING_SLOTS,
-        });
+        return Err(Refusal::Setting(SETTING_SLOTS));
     }
     if depth < 1 {
-        return RunAnswer::Refuses(Refusal {
-            number: 12,
-            place: SETTING_DEPTH,
-        });
+        return Err(Refusal::Setting(SETTING_DEPTH));
     }
     if MOST_ROWS < depth {
-        return RunAnswer::Refuses(Refusal {
-            number: 12,
-            place: SETTING_DEPTH,
-        });
+        return Err(Refusal::Setting(SETTING_DEPTH));
     }
     if rows::are_whole(rows, slots) {
         if answers::state_right(s) {
             match wellformed::check(list, slots as u64, depth as u64) {
-                Formed::Well => return RunAnswer::Runs(machine::run(list, rows, slots, s)),
-                Formed::Bad(p) => return RunAnswer::Refuses(Refusal {
-                    number: 15,
-                    place: p as u64,
-                }),
+                Ok(()) => return Ok(machine::run(list, rows, slots, s)),
+                Err(p) => return Err(Refusal::Steps(p as u64)),
             }
         }
     }
-    RunAnswer::Refuses(Refusal {
-        number: 13,
-        place: 0,
-    })
+    Err(Refusal::Records)
 }

@@ -1,20 +1,12 @@
 // Which lists of steps are well formed, for rows of so many slots and a window of so many rows.
-ghost use Rattle.std.specs.Prelude.{◌≡◌, ◌+◌, ◌-◌, ◌<◌, ◌≤◌, length};
+ghost use Rattle.std.specs.Prelude.{◌≡◌, ◌+◌, ◌-◌, ◌<◌, ◌≤◌, length, Err};
 ghost use Rattle.steps.specs.Bytes.{read_step, steps_in};
-ghost use Rattle.steps.specs.declared.wellformed.Formed.TheVariants.{Bad};
 ghost use Rattle.steps.specs.WellFormed.{zeros, rows_fit, unused_fields_zero, series_within, looks_within, bounded, good_step, formed_from, formed};
 
 use crate::step::{Op, Step};
 use crate::{decode, quick};
 use table::series::Series;
 use words::limits::MOST_STEPS;
-
-// Whether a list of steps is well formed, and if not, its lowest bad step (0 for a bad length).
-#[derive(Clone, Copy)]
-pub enum Formed {
-    Well,
-    Bad(usize),
-}
 
 #[tactic(auto, unfolding(crate::specs::WellFormed::zeros))]
 fn zeros(selector: u8, skip: u64, n: u64, bits: u64) -> bool
@@ -134,7 +126,7 @@ fn good_at(list: &[u8], at: usize, slots: u64, depth: u64, after: u64) -> bool
 // How many of the n steps are good from place p on: four at once, one, or none.
 fn good_from(list: &[u8], n: usize, p: usize, slots: u64, depth: u64) -> usize
     requires { (n ≡ steps_in list.now) × (n ≤ 1024) × (p < n) }
-    ensures { (p + result ≤ n) × (result ≡ 0 → formed_from slots depth list.now p (n - p) ≡ Bad p)
+    ensures { (p + result ≤ n) × (result ≡ 0 → formed_from slots depth list.now p (n - p) ≡ Err p)
         × (formed_from slots depth list.now p (n - p) ≡ formed_from slots depth list.now (p + result) (n - (p + result))) }
 {
     let left = n - p;
@@ -150,23 +142,23 @@ fn good_from(list: &[u8], n: usize, p: usize, slots: u64, depth: u64) -> usize
 }
 
 // Whether a list is well formed for rows of `slots` slots and a window of `depth` rows.
-pub fn check(list: &[u8], slots: u64, depth: u64) -> Formed
+pub fn check(list: &[u8], slots: u64, depth: u64) -> Result<(), usize>
     ensures { result ≡ formed slots depth list.now }
 {
     if list.len() % 16 != 0 {
-        return Formed::Bad(0);
+        return Err(0);
     }
     let n = list.len() / 16;
     if MOST_STEPS < n {
-        return Formed::Bad(0);
+        return Err(0);
     }
     let mut p = 0;
     while p < n {
         let good = good_from(list, n, p, slots, depth);
         if good == 0 {
-            return Formed::Bad(p);
+            return Err(p);
         }
         p += good;
     }
-    Formed::Well
+    Ok(())
 }

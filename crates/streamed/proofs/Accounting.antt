@@ -1,8 +1,8 @@
 -- An account on the stream, by each way out of the code.
+use Rattle.std.specs.Prelude.{Err, Ok}
 use Rattle.words.specs.Prelude.{ℕ, zero, suc, ◌+◌, ◌/◌, ◌%◌, ◌^◌, ◌<◌, ◌≡◌, refl, ◌∙◌, true, false, List, map, arith, eq-eqb, ne_eqb}
 use Rattle.words.specs.{declared.refusal.Refusal.Refusal, Limits.bar_words, Words.word}
 use Rattle.records.specs.{declared.settings.Settings.Settings, Settings.settings_of}
-use Rattle.refusals.specs.{declared.verdict.Verdict.Verdict, declared.verdict.Verdict.TheVariants.Fine, declared.verdict.Verdict.TheVariants.Bad}
 use Rattle.refusals.specs.{Lines.judged}
 use Rattle.engine.specs.{Day.in_records}
 use Rattle.accounts.specs.{declared.stream.StreamTaken.StreamTaken, Laws.Stream.Within, Laws.Stream.taken_within, Own.own_bar, Profile.profile_judged}
@@ -12,6 +12,8 @@ use Rattle.stepping.specs.{Bars.StepLent, WordRun.calls_over, WordRun.answer_of}
 use Rattle.streamed.specs.{Accounts.AccountGiven, Accounts.AccountLent, Accounts.own_lists, Accounts.own_bars, Accounts.alone, Accounts.status_after}
 use Rattle.streamed.specs.{Accounts.rides_by, Accounts.account_after, Accounts.AccountsLent, Accounts.Four, Accounts.accounts_lines, Accounts.none_done}
 use Rattle.streamed.specs.{Accounts.stream_after, Accounts.after_bars, Accounts.accounts_by, Accounts.accounts_call}
+use Rattle.refusals.specs.{Lines.Verdict}
+use Rattle.words.specs.{Outcome.number_of, Outcome.place_of}
 
 pub some_of : (n : ℕ) → (n ≡ 0 → ⊥) → 0 < n
 some_of zero h = absurd (h refl)
@@ -43,12 +45,12 @@ module _ (S seen count w : ℕ) (bars : List ℕ) (g : AccountGiven) (a : Accoun
           go zero h = absurd (h refl)
           go (suc n) h = unfold in_records account_after in rw runs
 
-      pub account_refused : {why : Refusal} {status : List ℕ} → profile_judged g.table s S ≡ Bad why
-          → status ≡ stopped_with a.status why.number why.place seen → after ≡ record { state = a.state; rooms = a.rooms; status = status }
+      pub account_refused : {why : Refusal} {status : List ℕ} → profile_judged g.table s S ≡ Err why
+          → status ≡ stopped_with a.status (number_of why) (place_of why) seen → after ≡ record { state = a.state; rooms = a.rooms; status = status }
       unfolding rides_by
       account_refused bad put = account_runs ∙ rw (← read, bad, put)
 
-      module _ (fine : profile_judged g.table s S ≡ Fine) {n x : ℕ} {l : StepLent}
+      module _ (fine : profile_judged g.table s S ≡ Ok tt) {n x : ℕ} {l : StepLent}
           (went : calls_over g.settings (own_lists g) (record { state = a.state; rooms = a.rooms }) (map (own_bar S s.slots) (in_records count w bars))
           ≡ record { done = n; answer = x; lent = l }) where
         pub account_rode : x ≡ 0 → after ≡ record { state = l.state; rooms = l.rooms; status = a.status }
@@ -64,11 +66,11 @@ module _ (S seen count w : ℕ) (bars : List ℕ) (g : AccountGiven) (a : Accoun
 
 module _ (bars : List ℕ) (g : Four) (l : AccountsLent) {v : Verdict}
     (lines : v ≡ judged (accounts_lines l.stream l.first.status l.second.status l.third.status l.fourth.status)) where
-  pub accounts_short : {why : Refusal} {x : ℕ} → v ≡ Bad why → x ≡ answer_word why → accounts_call bars g l ≡ record { answer = x; lent = none_done l }
+  pub accounts_short : {why : Refusal} {x : ℕ} → v ≡ Err why → x ≡ answer_word why → accounts_call bars g l ≡ record { answer = x; lent = none_done l }
   unfolding accounts_call accounts_by
   accounts_short bad word = rw (← lines, bad, word)
 
-  pub accounts_ran : {S seen x : ℕ} {t : StreamTaken} {stream : List ℕ} {a b c d : AccountLent} → v ≡ Fine → S ≡ word l.stream 0 → seen ≡ word l.stream 1
+  pub accounts_ran : {S seen x : ℕ} {t : StreamTaken} {stream : List ℕ} {a b c d : AccountLent} → v ≡ Ok tt → S ≡ word l.stream 0 → seen ≡ word l.stream 1
       → t ≡ stream_taken S seen bars → x ≡ answer_of t.verdict → stream ≡ stream_after l.stream seen t.done
       → account_after S seen (in_records t.done (bar_words S) bars) g.first l.first ≡ a
       → account_after S seen (in_records t.done (bar_words S) bars) g.second l.second ≡ b

@@ -1,15 +1,18 @@
 -- Four accounts on one stream (request 14), on words. "Each account has its table, settings, state and rooms; the bar and the slots are shared."
 -- Definitions only.
-use Rattle.std.specs.Prelude.{ℕ, ◌+◌, ◌/◌, ◌%◌, ◌^◌, cond, List, [], ◌∷◌, map, leb, eqb, length}
+use Rattle.std.specs.Prelude.{ℕ, ◌+◌, ◌/◌, ◌%◌, ◌^◌, cond, List, [], ◌∷◌, map, leb, eqb, length, Err, Ok}
 use Rattle.words.specs.{Limits.bar_words, Words.word, Words.overwrite}
 use Rattle.records.specs.{Lent.Rooms, Lent.Lists, Lent.rooms, Lent.lists, Settings.settings_of}
-use Rattle.refusals.specs.{declared.verdict.Verdict.Verdict, declared.verdict.Verdict.TheVariants.Fine, declared.verdict.Verdict.TheVariants.Bad, Lines.Line}
+use Rattle.refusals.specs.{Lines.Line}
 use Rattle.refusals.specs.{Lines.line, Lines.judged}
 use Rattle.engine.specs.{Day.in_records}
 use Rattle.accounts.specs.{declared.stream.StreamTaken.StreamTaken, Own.own_bar, Profile.profile_judged, Status.status_words}
 use Rattle.accounts.specs.{Status.is_stopped, Status.stopped_with, Stream.stream_taken}
 use Rattle.replies.specs.{Call.Call, Call.answer_word}
 use Rattle.stepping.specs.{WordRun.WordRun, WordRun.calls_over, WordRun.answer_of}
+use Rattle.refusals.specs.{Lines.Verdict}
+use Rattle.words.specs.declared.refusal.Refusal.TheVariants as Refusal
+use Rattle.words.specs.{Outcome.number_of, Outcome.place_of}
 
 -- what an account is handed to read
 pub record AccountGiven : Type 0 where
@@ -56,8 +59,8 @@ status_after status seen r = cond (eqb r.answer 0) status (stopped_with status (
 
 -- by the verdict on its table and profile
 unfoldable pub rides_by : Verdict → ℕ → WordRun → AccountLent → AccountLent
-rides_by (Bad why) seen r a = record { state = a.state; rooms = a.rooms; status = stopped_with a.status why.number why.place seen }
-rides_by Fine seen r a = record { state = r.lent.state; rooms = r.lent.rooms; status = status_after a.status seen r }
+rides_by (Err why) seen r a = record { state = a.state; rooms = a.rooms; status = stopped_with a.status (number_of why) (place_of why) seen }
+rides_by (Ok tt) seen r a = record { state = r.lent.state; rooms = r.lent.rooms; status = status_after a.status seen r }
 
 -- over the bars that the stream takes: none stop nobody, and one that was stopped is not touched
 unfoldable pub account_after : ℕ → ℕ → List (List ℕ) → AccountGiven → AccountLent → AccountLent
@@ -85,11 +88,11 @@ pub record Four : Type 0 where
 -- "10: a lent room below the size these papers name": room 16 holds the stream, room 17 a status
 unfoldable pub accounts_lines : List ℕ → List ℕ → List ℕ → List ℕ → List ℕ → List Line
 accounts_lines stream a b c d =
-    line (leb stream_words (length stream)) 10 16
-    ∷ line (leb status_words (length a)) 10 17
-    ∷ line (leb status_words (length b)) 10 17
-    ∷ line (leb status_words (length c)) 10 17
-    ∷ line (leb status_words (length d)) 10 17
+    line (leb stream_words (length stream)) (Refusal.Room 16)
+    ∷ line (leb status_words (length a)) (Refusal.Room 17)
+    ∷ line (leb status_words (length b)) (Refusal.Room 17)
+    ∷ line (leb status_words (length c)) (Refusal.Room 17)
+    ∷ line (leb status_words (length d)) (Refusal.Room 17)
     ∷ []
 
 -- with no bar done
@@ -114,8 +117,8 @@ after_bars S seen t bars g l =
     }
 
 unfoldable pub accounts_by : Verdict → List ℕ → Four → AccountsLent → Call AccountsLent
-accounts_by (Bad why) bars g l = record { answer = answer_word why; lent = none_done l }
-accounts_by Fine bars g l =
+accounts_by (Err why) bars g l = record { answer = answer_word why; lent = none_done l }
+accounts_by (Ok tt) bars g l =
     let S = word l.stream 0 in
     let seen = word l.stream 1 in
     let t = stream_taken S seen bars in

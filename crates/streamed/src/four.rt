@@ -11,6 +11,7 @@ ghost use Rattle.streamed.specs.Accounts.{given, lent, account_after, accounts_l
 ghost use Rattle.stepping.specs.Bars.{step_call};
 ghost use Rattle.stepping.specs.WordRun.{calls_over};
 
+use words::refusal::Refusal;
 use accounts::own::own_bar;
 use accounts::profile::judge_profile;
 use accounts::status::{STATUS_WORDS, is_stopped, stop};
@@ -45,12 +46,12 @@ pub struct Ridden {
 fn judge_streams(stream: &[u64], a: &[u64], b: &[u64], c: &[u64], d: &[u64]) -> Verdict
     ensures { result ≡ judged (accounts_lines stream.now a.now b.now c.now d.now) }
 {
-    let below = Verdict::Fine;
-    let below = line(STATUS_WORDS <= d.len(), 10, STATUS_ROOM, below);
-    let below = line(STATUS_WORDS <= c.len(), 10, STATUS_ROOM, below);
-    let below = line(STATUS_WORDS <= b.len(), 10, STATUS_ROOM, below);
-    let below = line(STATUS_WORDS <= a.len(), 10, STATUS_ROOM, below);
-    line(STREAM_WORDS <= stream.len(), 10, STREAM_ROOM, below)
+    let below = Ok(());
+    let below = line(STATUS_WORDS <= d.len(), Refusal::Room(STATUS_ROOM), below);
+    let below = line(STATUS_WORDS <= c.len(), Refusal::Room(STATUS_ROOM), below);
+    let below = line(STATUS_WORDS <= b.len(), Refusal::Room(STATUS_ROOM), below);
+    let below = line(STATUS_WORDS <= a.len(), Refusal::Room(STATUS_ROOM), below);
+    line(STREAM_WORDS <= stream.len(), Refusal::Room(STREAM_ROOM), below)
 }
 
 // A bar of the stream, as a step of an account over its own part of it.
@@ -178,8 +179,8 @@ fn account<'a>(
     }
     let chosen = settings_of(settings);
     let slots = chosen.slots;
-    if let Verdict::Bad(refusal) = judge_profile(table, chosen, stream) {
-        stop(status, refusal.number, refusal.place, seen);
+    if let Err(refusal) = judge_profile(table, chosen, stream) {
+        stop(status, refusal.number(), refusal.place(), seen);
         return;
     }
     let went = ride(
@@ -278,7 +279,7 @@ pub fn step_accounts(
           };
         } }
 {
-    if let Verdict::Bad(refusal) = judge_streams(stream, a_status, b_status, c_status, d_status) {
+    if let Err(refusal) = judge_streams(stream, a_status, b_status, c_status, d_status) {
         *done = 0;
         return answer_word(refusal);
     }

@@ -1,30 +1,32 @@
 -- The parts of the check put together.
 -- Assumes nothing.
+use Rattle.std.specs.Prelude.{Err, None, Option, Result, Some, ℕ}
 use Rattle.words.specs.Prelude.{◌≡◌, refl, sym, ◌∙◌, ap, cond, ⊎_elim, List, ℕ, ◌-◌, ◌≤◌, ◌<◌, arith, eq-zero-or-pos, zero-add, get_or, replicate, ext_get_or, ltb}
 use Rattle.words.specs.Prelude.{lt-ltb, le-ltb, eq-eqb, ne_eqb}
-use Rattle.words.specs.{Limits.most_nodes, declared.refusal.Refusal.Refusal, Outcome.refusal}
-use Rattle.table.specs.{declared.places.Place.Place, declared.places.Place.TheVariants.Nowhere, declared.places.Place.TheVariants.At}
-use Rattle.table.specs.{declared.answer.Answer.Answer, declared.answer.Answer.TheVariants.Accepted, declared.answer.Answer.TheVariants.Refused}
+use Rattle.words.specs.{Limits.most_nodes, declared.refusal.Refusal.Refusal}
 use Rattle.table.specs.{Bytes.u16, Header.total, Header.header_refusal, Header.root, Nodes.wrong_node, Checked.or_refused, Checked.or_header, Checked.from9}
 use Rattle.table.specs.{Checked.from8, Checked.from7, Checked.checked_up_to, Ends.ends_for, Ends.end_at, Ends.from, Ends.end_of_node, Ends.ends_all, Ends.Linked}
 use Rattle.table.specs.{Passes.EndedFrom, declared.trees.Roots.Roots, Passes.AreRoots, Passes.EndedAll, Passes.LinkedAll, Laws.Ends.from_long}
 use Rattle.table.specs.{Laws.Ends.from_at}
 use Rattle.table.specs.{Laws.Header.header_right}
+use Rattle.table.specs.{declared.answer.Accepted.Accepted}
+use Rattle.table.specs.{Outcome.accepts}
+use Rattle.words.specs.declared.refusal.Refusal.TheVariants as Refusal
 use Rattle.table.proofs.{Linked.end_word}
 
 -- One rule: it is broken, or what is left decides.
-module _ (nr : ℕ) (q : Place) (x rest : Answer) (es ends : List ℕ) where
-  pub stage_at : (p : ℕ) → q ≡ At p → x ≡ Refused (refusal nr p) → es ≡ replicate most_nodes 0
+module _ (nr : ℕ) (q : Option ℕ) (x rest : Result Accepted Refusal) (es ends : List ℕ) where
+  pub stage_at : (p : ℕ) → q ≡ Some p → x ≡ Err (refusal nr p) → es ≡ replicate most_nodes 0
       → (x ≡ or_refused nr q rest) × (es ≡ ends_for (or_refused nr q rest) ends)
   unfolding or_refused ends_for
   stage_at p h hx he = rw h (hx, he)
 
-  pub stage_none : q ≡ Nowhere → x ≡ rest → es ≡ ends_for rest ends → (x ≡ or_refused nr q rest) × (es ≡ ends_for (or_refused nr q rest) ends)
+  pub stage_none : q ≡ None → x ≡ rest → es ≡ ends_for rest ends → (x ≡ or_refused nr q rest) × (es ≡ ends_for (or_refused nr q rest) ends)
   unfolding or_refused
   stage_none h hx he = rw h (hx, he)
 
-module _ (nr : ℕ) (x rest : Answer) (es ends : List ℕ) where
-  pub head_at : (nr ≡ 0 → ⊥) → x ≡ Refused (refusal nr 0) → es ≡ replicate most_nodes 0 → (x ≡ or_header nr rest) × (es ≡ ends_for (or_header nr rest) ends)
+module _ (nr : ℕ) (x rest : Result Accepted Refusal) (es ends : List ℕ) where
+  pub head_at : (nr ≡ 0 → ⊥) → x ≡ Err (refusal nr 0) → es ≡ replicate most_nodes 0 → (x ≡ or_header nr rest) × (es ≡ ends_for (or_header nr rest) ends)
   unfolding or_header ends_for
   head_at h hx he = simp (ne_eqb _ _ h) (hx, he)
 
@@ -38,12 +40,12 @@ unfolding checked_up_to from7 from8 from9
 checked_is newest t = refl
 
 -- An answer that is handed on, with the array beside it.
-pub keep_refused : (a x : Answer) (es ends : List ℕ) (why : Refusal) → a ≡ Refused why → x ≡ Refused why → es ≡ replicate most_nodes 0
+pub keep_refused : (a x : Result Accepted Refusal) (es ends : List ℕ) (why : Refusal) → a ≡ Err why → x ≡ Err why → es ≡ replicate most_nodes 0
     → (x ≡ a) × (es ≡ ends_for a ends)
 unfolding ends_for
 keep_refused a x es ends why ha hx he = rw ha (hx, he)
 
-pub keep_accepted : (a : Answer) (ends : List ℕ) (n r : ℕ) → a ≡ Accepted n r → (Accepted n r ≡ a) × (ends ≡ ends_for a ends)
+pub keep_accepted : (a : Result Accepted Refusal) (ends : List ℕ) (n r : ℕ) → a ≡ accepts n r → (accepts n r ≡ a) × (ends ≡ ends_for a ends)
 unfolding ends_for
 keep_accepted a ends n r ha = rw ha (refl, refl)
 
@@ -95,28 +97,28 @@ ends_are t ends roots k all l =
     (λ j h. end_at_lem t ends roots k all l j ∙ ap (end_of_node t) (sym (zero-add j)) ∙
     sym (from_at (end_of_node t) 0 most_nodes 0 j (omega (arith, all.long))))
 
-module _ (newest : ℕ) (t : List ℕ) (x : Answer) (es ends : List ℕ) where
+module _ (newest : ℕ) (t : List ℕ) (x : Result Accepted Refusal) (es ends : List ℕ) where
   right : (x ≡ or_header (header_refusal newest t) (or_refused 6 (wrong_node t (u16 t 6) 0) (from7 t)))
       × (es ≡ ends_for (or_header (header_refusal newest t) (or_refused 6 (wrong_node t (u16 t 6) 0) (from7 t))) ends)
       → (x ≡ checked_up_to newest t) × (es ≡ ends_for (checked_up_to newest t) ends)
   right h = rw (checked_is newest t) h
 
-  pub one_at : (nr : ℕ) → nr ≡ header_refusal newest t → (nr ≡ 0 → ⊥) → x ≡ Refused (refusal nr 0) → es ≡ replicate most_nodes 0
+  pub one_at : (nr : ℕ) → nr ≡ header_refusal newest t → (nr ≡ 0 → ⊥) → x ≡ Err (refusal nr 0) → es ≡ replicate most_nodes 0
       → (x ≡ checked_up_to newest t) × (es ≡ ends_for (checked_up_to newest t) ends)
   one_at nr h some hx he =
-      right (head_at (header_refusal newest t) x _ es ends (λ z. some (h ∙ z)) (hx ∙ ap (λ (n : ℕ). Refused (refusal n 0)) h) he)
+      right (head_at (header_refusal newest t) x _ es ends (λ z. some (h ∙ z)) (hx ∙ ap (λ (n : ℕ). Err (refusal n 0)) h) he)
 
-  module _ (h : header_refusal newest t ≡ 0) (n : ℕ) (all : n ≡ u16 t 6) (q : Place) (found : q ≡ wrong_node t n 0) where
+  module _ (h : header_refusal newest t ≡ 0) (n : ℕ) (all : n ≡ u16 t 6) (q : Option ℕ) (found : q ≡ wrong_node t n 0) where
     place : q ≡ wrong_node t (u16 t 6) 0
     place = found ∙ ap (λ (m : ℕ). wrong_node t m 0) all
 
-    pub six_at : (p : ℕ) → q ≡ At p → x ≡ Refused (refusal 6 p) → es ≡ replicate most_nodes 0
+    pub six_at : (p : ℕ) → q ≡ Some p → x ≡ Err (Refusal.Node p) → es ≡ replicate most_nodes 0
         → (x ≡ checked_up_to newest t) × (es ≡ ends_for (checked_up_to newest t) ends)
     six_at p hp hx he =
         let g = stage_at 6 (wrong_node t (u16 t 6) 0) x (from7 t) es ends p (sym place ∙ hp) hx he in
         right (head_none (header_refusal newest t) x _ es ends h g.0 g.1)
 
-    pub six_none : q ≡ Nowhere → x ≡ from7 t → es ≡ ends_for (from7 t) ends → (x ≡ checked_up_to newest t) × (es ≡ ends_for (checked_up_to newest t) ends)
+    pub six_none : q ≡ None → x ≡ from7 t → es ≡ ends_for (from7 t) ends → (x ≡ checked_up_to newest t) × (es ≡ ends_for (checked_up_to newest t) ends)
     six_none hp hx he =
         let g = stage_none 6 (wrong_node t (u16 t 6) 0) x (from7 t) es ends (sym place ∙ hp) hx he in
         right (head_none (header_refusal newest t) x _ es ends h g.0 g.1)

@@ -1,15 +1,17 @@
 -- The four trees together.
 -- Assumes nothing.
+use Rattle.std.specs.Prelude.{Err, None, Option, Some, ℕ}
 use Rattle.words.specs.Prelude.{◌≡◌, refl, sym, ◌∙◌, ap, subst, ⊎_elim, List, [], ◌∷◌, ℕ, zero, suc, ◌+◌, ◌-◌, ◌≤◌, ◌<◌, max, min, arith, eq-zero-or-pos}
 use Rattle.words.specs.Prelude.{length, get_or, replicate, lt-ltb, le-ltb}
-use Rattle.words.specs.{Limits.most_nodes, Limits.most_reach, Limits.most_rows, Outcome.refusal}
-use Rattle.table.specs.{declared.places.Place.Place, declared.places.Place.TheVariants.Nowhere, declared.places.Place.TheVariants.At}
-use Rattle.table.specs.{declared.answer.Answer.TheVariants.Accepted, declared.answer.Answer.TheVariants.Refused, Bytes.u16, Header.count, Header.root}
+use Rattle.words.specs.{Limits.most_nodes, Limits.most_reach, Limits.most_rows}
+use Rattle.table.specs.{Bytes.u16, Header.count, Header.root}
 use Rattle.table.specs.{Nodes.sort_at, Order.fits, Order.misfit, Order.first_place, Order.of_four, Order.misfits, Forest.trees, Forest.forest_of}
 use Rattle.table.specs.{Nesting.deeper, Nesting.too_deep, Reach.forest_reach, Reach.tree_reach, Reach.too_far, Reach.rows_needed, Reach.far_at}
 use Rattle.table.specs.{Checked.or_refused, Checked.from9, Passes.Ended, Passes.EndedFrom, Passes.Ordered, declared.trees.Roots.Roots, Passes.AreRoots}
 use Rattle.table.specs.{Passes.EndedAll}
 use Rattle.table.specs.{Passes.LinkedTree, Passes.LinkedAll, Passes.misfit_from, Laws.Accepted.of_four_lem, Laws.Order.first_sort, Laws.Order.never_at}
+use Rattle.table.specs.{Outcome.accepts}
+use Rattle.words.specs.declared.refusal.Refusal.TheVariants as Refusal
 use Rattle.table.proofs.{Prefix.fits_two, Prefix.fits_soon, Prefix.pass, Linked.linked, Linked.word_end}
 
 root-zero : (t : List ℕ) → 0 ≡ root t 0
@@ -33,7 +35,7 @@ module _ (t : List ℕ) (roots : Roots) (k : AreRoots t roots) where
   unfolding root
   n3 = omega (arith, k.three, k.four)
 
-  pub four : (f : ℕ → ℕ → Place) (p q r s : Place) → p ≡ f (roots.exit - 0) 0 → q ≡ f (roots.short_entry - roots.exit) roots.exit
+  pub four : (f : ℕ → ℕ → Option ℕ) (p q r s : Option ℕ) → p ≡ f (roots.exit - 0) 0 → q ≡ f (roots.short_entry - roots.exit) roots.exit
       → r ≡ f (roots.short_exit - roots.short_entry) roots.short_entry → s ≡ f (roots.end - roots.short_exit) roots.short_exit
       → first_place p q r s ≡ of_four (λ x. f (count t x) (root t x))
   unfolding of_four
@@ -44,20 +46,20 @@ module _ (t : List ℕ) (roots : Roots) (k : AreRoots t roots) where
       let o3 : s ≡ f (count t 3) (root t 3) = cc (n3, k.three) in
       cc
 
-  pub four_misfits : (p q r s : Place) → p ≡ misfit t (roots.exit - 0) 0 → q ≡ misfit t (roots.short_entry - roots.exit) roots.exit
+  pub four_misfits : (p q r s : Option ℕ) → p ≡ misfit t (roots.exit - 0) 0 → q ≡ misfit t (roots.short_entry - roots.exit) roots.exit
       → r ≡ misfit t (roots.short_exit - roots.short_entry) roots.short_entry → s ≡ misfit t (roots.end - roots.short_exit) roots.short_exit
       → first_place p q r s ≡ misfits t
   unfolding misfits
   four_misfits p q r s hp hq hr hs = four (misfit t) p q r s hp hq hr hs
 
-  pub four_deep : (p q r s : Place) → p ≡ deeper 32 (trees t (roots.exit - 0) 0) → q ≡ deeper 32 (trees t (roots.short_entry - roots.exit) roots.exit)
+  pub four_deep : (p q r s : Option ℕ) → p ≡ deeper 32 (trees t (roots.exit - 0) 0) → q ≡ deeper 32 (trees t (roots.short_entry - roots.exit) roots.exit)
       → r ≡ deeper 32 (trees t (roots.short_exit - roots.short_entry) roots.short_entry)
       → s ≡ deeper 32 (trees t (roots.end - roots.short_exit) roots.short_exit)
       → first_place p q r s ≡ too_deep t
   unfolding too_deep forest_of
   four_deep p q r s hp hq hr hs = four (λ m i. deeper 32 (trees t m i)) p q r s hp hq hr hs
 
-  pub four_far : (p q r s : Place) → p ≡ far_at (forest_reach (trees t (roots.exit - 0) 0)) 0
+  pub four_far : (p q r s : Option ℕ) → p ≡ far_at (forest_reach (trees t (roots.exit - 0) 0)) 0
       → q ≡ far_at (forest_reach (trees t (roots.short_entry - roots.exit) roots.exit)) roots.exit
       → r ≡ far_at (forest_reach (trees t (roots.short_exit - roots.short_entry) roots.short_entry)) roots.short_entry
       → s ≡ far_at (forest_reach (trees t (roots.end - roots.short_exit) roots.short_exit)) roots.short_exit
@@ -80,13 +82,13 @@ order_four t roots z w x y r k zero' long o0 o1 o2 o3 =
     }
 
 -- A tree that keeps rule 7 ends where its nodes do.
-root_end : (t ends : List ℕ) (b e : ℕ) → misfit t (e - b) b ≡ Nowhere → EndedFrom t ends b e → b < e → get_or ends b 0 ≡ e
+root_end : (t ends : List ℕ) (b e : ℕ) → misfit t (e - b) b ≡ None → EndedFrom t ends b e → b < e → get_or ends b 0 ≡ e
 unfolding EndedFrom
 root_end t ends b e h k l =
     ⊎_elim (λ z. omega (arith, known.within low)) (λ z. absurd (never_at (get_or ends b 0) (sym (fits_soon t e _ (omega arith)) ∙ after)))
     (eq-zero-or-pos (e - get_or ends b 0))
   where
-    whole : fits t (e - b) b (2 ∷ []) ≡ Nowhere
+    whole : fits t (e - b) b (2 ∷ []) ≡ None
     whole = fits_two t b e l ∙ h
 
     sort : sort_at t b ≡ 2
@@ -96,16 +98,16 @@ root_end t ends b e h k l =
     known = k b (omega arith) l
 
     low : get_or ends b 0 < misfit_from
-    low = word_end t e b (get_or ends b 0) [] (subst (λ (w : ℕ). fits t (e - b) b (w ∷ []) ≡ Nowhere) (sym sort) whole) known
+    low = word_end t e b (get_or ends b 0) [] (subst (λ (w : ℕ). fits t (e - b) b (w ∷ []) ≡ None) (sym sort) whole) known
 
-    after : fits t (e - get_or ends b 0) (get_or ends b 0) [] ≡ Nowhere
+    after : fits t (e - get_or ends b 0) (get_or ends b 0) [] ≡ None
     after = sym (pass t e b (get_or ends b 0) known 2 [] sort low) ∙ whole
 
-pub whole_tree : (t ends : List ℕ) (b e : ℕ) → misfit t (e - b) b ≡ Nowhere → EndedFrom t ends b e → LinkedTree t ends b e
+pub whole_tree : (t ends : List ℕ) (b e : ℕ) → misfit t (e - b) b ≡ None → EndedFrom t ends b e → LinkedTree t ends b e
 whole_tree t ends b e h k = record { links = linked t ends b e h k; ends_at = root_end t ends b e h k }
 
 -- The four trees keep rule 7 together just where each does.
-pub linked_all : (t ends : List ℕ) (roots : Roots) → AreRoots t roots → EndedAll t ends roots → misfits t ≡ Nowhere → LinkedAll t ends roots
+pub linked_all : (t ends : List ℕ) (roots : Roots) → AreRoots t roots → EndedAll t ends roots → misfits t ≡ None → LinkedAll t ends roots
 unfolding misfits
 linked_all t ends roots k all h =
     let fine = of_four_lem (λ x. misfit t (count t x) (root t x)) h in
@@ -117,7 +119,7 @@ linked_all t ends roots k all h =
     }
 
 -- A reach capped at 4,096 tells as much.
-far_none : (r b : ℕ) → far_at r b ≡ Nowhere → r ≤ most_reach
+far_none : (r b : ℕ) → far_at r b ≡ None → r ≤ most_reach
 unfolding far_at
 far_none r b h = ⊎_elim (λ z. omega arith) (λ z. absurd (never_at b (sym (rw (lt-ltb most_reach r (omega arith))) ∙ h))) (eq-zero-or-pos (r - most_reach))
 
@@ -128,11 +130,11 @@ far_capped r b x h = ⊎_elim
     (λ z. simp (lt-ltb most_reach r (omega arith), lt-ltb most_reach x (omega arith)))
     (eq-zero-or-pos (r - most_reach))
 
-pub nine_refused : (t : List ℕ) (p : ℕ) → too_far t ≡ At p → Refused (refusal 9 p) ≡ from9 t
+pub nine_refused : (t : List ℕ) (p : ℕ) → too_far t ≡ Some p → Err (Refusal.Reach p) ≡ from9 t
 unfolding from9 or_refused
 nine_refused t p h = rw h
 
-pub nine_accepted : (t : List ℕ) (n r : ℕ) → too_far t ≡ Nowhere → n ≡ u16 t 6 → r ≡ rows_needed t → Accepted n r ≡ from9 t
+pub nine_accepted : (t : List ℕ) (n r : ℕ) → too_far t ≡ None → n ≡ u16 t 6 → r ≡ rows_needed t → accepts n r ≡ from9 t
 unfolding from9 or_refused
 nine_accepted t n r h hn hr = rw h (cc)
 
@@ -142,7 +144,7 @@ capped_small x y h = omega arith
 most_four : (w x y z w' x' y' z' : ℕ) → w ≡ w' → x ≡ x' → y ≡ y' → z ≡ z' → max (max w x) (max y z) ≡ max (max w' x') (max y' z')
 most_four w x y z w' x' y' z' a b c d = cc
 
-kept : (r b x : ℕ) → x ≡ min r most_rows → far_at r b ≡ Nowhere → x ≡ r
+kept : (r b x : ℕ) → x ≡ min r most_rows → far_at r b ≡ None → x ≡ r
 kept r b x h f = omega (arith, far_none r b f)
 
 most_low : (w x y z : ℕ) → w ≤ most_rows → x ≤ most_rows → y ≤ most_rows → z ≤ most_rows → min (max (max w x) (max y z)) most_rows ≡ max (max w x) (max y z)
@@ -155,7 +157,7 @@ most_low w x y z a b c d = below (omega arith) (omega arith)
     below p q = omega arith
 
 module _ (t : List ℕ) (roots : Roots) (k : AreRoots t roots) where
-  pub fars_are : (w x y z : ℕ) (f : Place) → w ≡ min (forest_reach (trees t (roots.exit - 0) 0)) most_rows
+  pub fars_are : (w x y z : ℕ) (f : Option ℕ) → w ≡ min (forest_reach (trees t (roots.exit - 0) 0)) most_rows
       → x ≡ min (forest_reach (trees t (roots.short_entry - roots.exit) roots.exit)) most_rows
       → y ≡ min (forest_reach (trees t (roots.short_exit - roots.short_entry) roots.short_entry)) most_rows
       → z ≡ min (forest_reach (trees t (roots.end - roots.short_exit) roots.short_exit)) most_rows
@@ -165,7 +167,7 @@ module _ (t : List ℕ) (roots : Roots) (k : AreRoots t roots) where
   pub rows_are : (w x y z r : ℕ) → w ≡ min (forest_reach (trees t (roots.exit - 0) 0)) most_rows
       → x ≡ min (forest_reach (trees t (roots.short_entry - roots.exit) roots.exit)) most_rows
       → y ≡ min (forest_reach (trees t (roots.short_exit - roots.short_entry) roots.short_entry)) most_rows
-      → z ≡ min (forest_reach (trees t (roots.end - roots.short_exit) roots.short_exit)) most_rows → too_far t ≡ Nowhere
+      → z ≡ min (forest_reach (trees t (roots.end - roots.short_exit) roots.short_exit)) most_rows → too_far t ≡ None
       → r ≡ min (max (max w x) (max y z)) most_rows + 1 → r ≡ rows_needed t
   unfolding too_far rows_needed tree_reach forest_of far_at
   rows_are w x y z r hw hx hy hz none hr =

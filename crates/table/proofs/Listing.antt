@@ -1,13 +1,14 @@
 -- Silent tests put into a list, node by node. Assumes nothing.
+use Rattle.std.specs.Prelude.{Err, Ok, Result, ℕ}
 use Rattle.words.specs.Prelude.{ℕ, suc, ◌+◌, ◌-◌, ◌≤◌, ◌<◌, min, ◌≡◌, refl, sym, ap, ◌∙◌, Bool, true, false, cond, ◌&&◌, List, [], ◌∷◌, ◌++◌, arith, add-one}
 use Rattle.words.specs.Prelude.{leb, lt-ltb, le-ltb, length, set, drop, length-set, length-append}
-use Rattle.words.specs.{Limits.most_rows, declared.refusal.Refusal.Refusal, Outcome.refusal}
-use Rattle.table.specs.{declared.answer.Answer.TheVariants.Accepted, declared.answer.Answer.TheVariants.Refused}
-use Rattle.table.specs.{declared.silent.SilentAnswer.SilentAnswer, declared.silent.SilentAnswer.TheVariants.Lists}
-use Rattle.table.specs.{declared.silent.SilentAnswer.TheVariants.Refuses, Header.count, Header.root, Kinds.is_test_kind, Nodes.node_at, Forest.trees}
+use Rattle.words.specs.{Limits.most_rows, declared.refusal.Refusal.Refusal}
+use Rattle.table.specs.{Header.count, Header.root, Kinds.is_test_kind, Nodes.node_at, Forest.trees}
 use Rattle.table.specs.{Forest.first_trees, Forest.forest_of, Reach.own_back, Reach.weigh, Checked.checked, Ends.ends_beside, Laws.Accepted.ends_of}
 use Rattle.table.specs.{Laws.Accepted.tree_whole, Silent.WholeTrees, Silent.silent_answer, Silent.list_after_answer, Silent.silent_node, Silent.silent_nodes}
 use Rattle.table.specs.{Silent.four_silent, Silent.put_all, Laws.Silent.next_node, Laws.Silent.no_node}
+use Rattle.table.specs.{Outcome.accepts}
+use Rattle.words.specs.declared.refusal.Refusal.TheVariants as Refusal
 
 -- ---- numbers put one after the other
 
@@ -109,7 +110,7 @@ module _ (t : List ℕ) (d x at : ℕ) (given list : List ℕ) (next i : ℕ)
 -- ---- the four trees
 
 -- the ends beside an accepted table are right for each of its trees
-pub whole_all : (t ends : List ℕ) (n r : ℕ) → checked t ≡ Accepted n r → ends ≡ ends_beside t → WholeTrees t ends
+pub whole_all : (t ends : List ℕ) (n r : ℕ) → checked t ≡ accepts n r → ends ≡ ends_beside t → WholeTrees t ends
 unfolding WholeTrees
 whole_all t ends n r ok e x l = rw (e, ends_of t n r ok, add-one x) (tree_whole t n r ok x l)
 
@@ -125,25 +126,25 @@ put_four l m n o p A B C D a b c d ea em eb en ec eo ed ep = (
 -- ---- the answer
 
 -- what is answered, and the list beside it
-pub record Answers (t : List ℕ) (d : ℕ) (given : List ℕ) (answer : SilentAnswer) (list : List ℕ) : Type 0 where
+pub record Answers (t : List ℕ) (d : ℕ) (given : List ℕ) (answer : Result ℕ Refusal) (list : List ℕ) : Type 0 where
   pub is : answer ≡ silent_answer (checked t) (four_silent t d) (length given)
   pub leaves : list ≡ list_after_answer answer (four_silent t d) given
 
 module _ (t : List ℕ) (d : ℕ) (given : List ℕ) where
   -- a table that is refused
-  pub answers_refused : (why : Refusal) → checked t ≡ Refused why → Answers t d given (Refuses why) given
+  pub answers_refused : (why : Refusal) → checked t ≡ Err why → Answers t d given (Err why) given
   unfolding silent_answer list_after_answer
   answers_refused why bad = record { is = rw bad; leaves = refl }
 
-  module _ (n r : ℕ) (ok : checked t ≡ Accepted n r) (many : ℕ) (found : many ≡ length (four_silent t d)) where
+  module _ (n r : ℕ) (ok : checked t ≡ accepts n r) (many : ℕ) (found : many ≡ length (four_silent t d)) where
     -- a list that is too small
-    pub answers_small : length given < many → Answers t d given (Refuses (refusal 10 18)) given
+    pub answers_small : length given < many → Answers t d given (Err (Refusal.Room 18)) given
     unfolding silent_answer list_after_answer
     answers_small less = record { is = rw (ok, lt-ltb (length given) (length (four_silent t d)) (omega arith)); leaves = refl }
 
     -- the numbers, and what stood past them
     pub answers_lists : (again : ℕ) (list : List ℕ) → many ≤ length given → again ≡ length (four_silent t d) → list ≡ put_all given 0 (four_silent t d)
-        → Answers t d given (Lists again) list
+        → Answers t d given (Ok again) list
     unfolding silent_answer list_after_answer
     answers_lists again list enough same puts =
         record {

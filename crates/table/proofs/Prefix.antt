@@ -1,9 +1,10 @@
 -- Rule 7, one step at a time: what `fits` says at a node, and at a node whose end is known.
 -- Assumes nothing.
+use Rattle.std.specs.Prelude.{None, Some}
 use Rattle.words.specs.Prelude.{◌≡◌, refl, sym, ◌∙◌, ap, subst, true, false, List, [], ◌∷◌, ◌++◌, ℕ, suc, ◌+◌, ◌-◌, ◌≤◌, ◌<◌, arith, le_trans, eq-or-lt_of_le}
 use Rattle.words.specs.Prelude.{⊎_elim, ◌≢◌, length, get_or, set, replicate, get_or-set_same, get_or-set_other, eq-eqb, ne_eqb, lt-ltb, le-ltb}
 use Rattle.words.specs.{Limits.most_nodes}
-use Rattle.table.specs.{declared.places.Place.TheVariants.Nowhere, declared.places.Place.TheVariants.At, Nodes.sort_at, Nodes.child_count_at}
+use Rattle.table.specs.{Nodes.sort_at, Nodes.child_count_at}
 use Rattle.table.specs.{Nodes.child_sort_at, Nodes.child_fits_at, Order.fits, Order.misfit, Passes.fits_after, Passes.Ended, Passes.EndedFrom, Passes.Ordered}
 use Rattle.table.specs.{Passes.misfit_from, Laws.Forest.left_suc, Laws.Forest.left_zero}
 
@@ -13,23 +14,23 @@ module _ (t : List ℕ) (e i : ℕ) where
   unfolding fits
   fits_node h w ws s c = rw (left_suc e i h, eq-eqb _ _ s, c)
 
-  pub fits_child : i < e → (w : ℕ) (ws : List ℕ) → sort_at t i ≡ w → child_fits_at t i ≡ false → fits t (e - i) i (w ∷ ws) ≡ At (i + 1)
+  pub fits_child : i < e → (w : ℕ) (ws : List ℕ) → sort_at t i ≡ w → child_fits_at t i ≡ false → fits t (e - i) i (w ∷ ws) ≡ Some (i + 1)
   unfolding fits
   fits_child h w ws s c = rw (left_suc e i h, eq-eqb _ _ s, c)
 
-  pub fits_other : i < e → (w : ℕ) (ws : List ℕ) → (sort_at t i ≡ w → ⊥) → fits t (e - i) i (w ∷ ws) ≡ At i
+  pub fits_other : i < e → (w : ℕ) (ws : List ℕ) → (sort_at t i ≡ w → ⊥) → fits t (e - i) i (w ∷ ws) ≡ Some i
   unfolding fits
   fits_other h w ws s = rw (left_suc e i h, ne_eqb _ _ s)
 
-  pub fits_short : e ≤ i → (w : ℕ) (ws : List ℕ) → fits t (e - i) i (w ∷ ws) ≡ At i
+  pub fits_short : e ≤ i → (w : ℕ) (ws : List ℕ) → fits t (e - i) i (w ∷ ws) ≡ Some i
   unfolding fits
   fits_short h w ws = rw (left_zero e i h)
 
-  pub fits_soon : i < e → fits t (e - i) i [] ≡ At i
+  pub fits_soon : i < e → fits t (e - i) i [] ≡ Some i
   unfolding fits
   fits_soon h = rw (left_suc e i h)
 
-  pub fits_done : e ≤ i → fits t (e - i) i [] ≡ Nowhere
+  pub fits_done : e ≤ i → fits t (e - i) i [] ≡ None
   unfolding fits
   fits_done h = rw (left_zero e i h)
 
@@ -43,7 +44,7 @@ pub after_end : (t : List ℕ) (e v : ℕ) (ws : List ℕ) → v < misfit_from �
 unfolding fits_after
 after_end t e v ws h = rw (lt-ltb _ _ h)
 
-pub after_at : (t : List ℕ) (e v : ℕ) (ws : List ℕ) → misfit_from ≤ v → fits_after t e v ws ≡ At (v - misfit_from)
+pub after_at : (t : List ℕ) (e v : ℕ) (ws : List ℕ) → misfit_from ≤ v → fits_after t e v ws ≡ Some (v - misfit_from)
 unfolding fits_after
 after_at t e v ws h = rw (le-ltb _ _ h)
 
@@ -52,7 +53,7 @@ module _ (t : List ℕ) (e j v : ℕ) (k : Ended t e j v) where
   pub pass : (w : ℕ) (ws : List ℕ) → sort_at t j ≡ w → v < misfit_from → fits t (e - j) j (w ∷ ws) ≡ fits t (e - v) v ws
   pass w ws s h = ap (λ (x : ℕ). fits t (e - j) j (x ∷ ws)) (sym s) ∙ k.skips ws ∙ after_end t e v ws h
 
-  pub stop : (w : ℕ) (ws : List ℕ) → sort_at t j ≡ w → misfit_from ≤ v → fits t (e - j) j (w ∷ ws) ≡ At (v - misfit_from)
+  pub stop : (w : ℕ) (ws : List ℕ) → sort_at t j ≡ w → misfit_from ≤ v → fits t (e - j) j (w ∷ ws) ≡ Some (v - misfit_from)
   stop w ws s h = ap (λ (x : ℕ). fits t (e - j) j (x ∷ ws)) (sym s) ∙ k.skips ws ∙ after_at t e v ws h
 
 -- What is wanted of node i's children, of which `left` of the sort `of` are still to come at node j.
@@ -66,10 +67,10 @@ module _ (t : List ℕ) (e i : ℕ) where
       ap (λ (k : ℕ). fits t (e - (i + 1)) (i + 1) (replicate k (child_sort_at t i) ++ ws)) (sym m) ∙
       ap (λ (s : ℕ). fits t (e - (i + 1)) (i + 1) (replicate many s ++ ws)) (sym o)
 
-  stopped : (p : ℕ) → p < misfit_from → ((ws : List ℕ) → fits t (e - i) i (sort_at t i ∷ ws) ≡ At p) → Ended t e i (misfit_from + p)
+  stopped : (p : ℕ) → p < misfit_from → ((ws : List ℕ) → fits t (e - i) i (sort_at t i ∷ ws) ≡ Some p) → Ended t e i (misfit_from + p)
   stopped p small all =
       record {
-        skips = λ ws. all ws ∙ ap At less ∙ sym (after_at t e (misfit_from + p) ws (omega arith));
+        skips = λ ws. all ws ∙ ap Some less ∙ sym (after_at t e (misfit_from + p) ws (omega arith));
         beyond = λ l. absurd (never l);
         within = λ l. absurd (never l);
         small = omega arith;
@@ -155,7 +156,7 @@ order_more t e i i' v given ends step hi room k new =
 
 -- One tree's verdict, from its root's word.
 module _ (t : List ℕ) (b e : ℕ) where
-  pub misfit_none : e ≤ b → Nowhere ≡ misfit t (e - b) b
+  pub misfit_none : e ≤ b → None ≡ misfit t (e - b) b
   unfolding misfit
   misfit_none h = rw (left_zero e b h)
 
@@ -166,17 +167,17 @@ module _ (t : List ℕ) (b e : ℕ) where
       some : e - b ≡ 0 → ⊥
       some z = omega arith
 
-  pub misfit_sort : b < e → (sort_at t b ≡ 2 → ⊥) → At b ≡ misfit t (e - b) b
+  pub misfit_sort : b < e → (sort_at t b ≡ 2 → ⊥) → Some b ≡ misfit t (e - b) b
   misfit_sort h s = sym (fits_other t e b h 2 [] s) ∙ fits_two h
 
   module _ (v : ℕ) (h : b < e) (s : sort_at t b ≡ 2) (k : Ended t e b v) where
-    pub misfit_inside : misfit_from ≤ v → At (v - misfit_from) ≡ misfit t (e - b) b
+    pub misfit_inside : misfit_from ≤ v → Some (v - misfit_from) ≡ misfit t (e - b) b
     misfit_inside g = sym (stop t e b v k 2 [] s g) ∙ fits_two h
 
-    pub misfit_soon : v < misfit_from → v < e → At v ≡ misfit t (e - b) b
+    pub misfit_soon : v < misfit_from → v < e → Some v ≡ misfit t (e - b) b
     misfit_soon g l = sym (pass t e b v k 2 [] s g ∙ fits_soon t e v l) ∙ fits_two h
 
-    pub misfit-fits : v < misfit_from → e ≤ v → Nowhere ≡ misfit t (e - b) b
+    pub misfit-fits : v < misfit_from → e ≤ v → None ≡ misfit t (e - b) b
     misfit-fits g l = sym (pass t e b v k 2 [] s g ∙ fits_done t e v l) ∙ fits_two h
 
 pub order_at : (t : List ℕ) (i b e : ℕ) (given ends : List ℕ) → i ≡ b → Ordered t i e given ends → Ordered t b e given ends

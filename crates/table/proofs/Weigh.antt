@@ -1,10 +1,11 @@
 -- The laws of rules 8 and 9: what a row of trees weighs, one tree at a time, and where it is too deep.
 -- Assumes nothing.
+use Rattle.std.specs.Prelude.{None, Option, Some, ℕ}
 use Rattle.words.specs.Prelude.{◌≡◌, refl, sym, ◌∙◌, ap, subst, ⊎_elim, ◌≢◌, List, ℕ, zero, suc, ◌+◌, ◌-◌, ◌≤◌, ◌<◌, max, min, arith, le_trans, eq-or-lt_of_le}
 use Rattle.words.specs.Prelude.{eq-zero-or-pos, length, get_or, set, get_or-set_same, get_or-set_other}
 use Rattle.words.specs.{Limits.most_rows}
-use Rattle.table.specs.{declared.weighing.Weight.Weight, declared.nodes.Node.Node, declared.places.Place.Place, declared.places.Place.TheVariants.Nowhere}
-use Rattle.table.specs.{declared.places.Place.TheVariants.At, Nodes.node_at, Nodes.child_count_at, Order.or_place, Forest.Forest, Forest.none, Forest.tree}
+use Rattle.table.specs.{declared.weighing.Weight.Weight, declared.nodes.Node.Node}
+use Rattle.table.specs.{Nodes.node_at, Nodes.child_count_at, Order.or_place, Forest.Forest, Forest.none, Forest.tree}
 use Rattle.table.specs.{Forest.first_trees, Forest.other_trees, Forest.node_over, Forest.trees, Nesting.deeper, Reach.weigh, Reach.own_back}
 use Rattle.table.specs.{Reach.forest_reach, Ends.Link, Ends.Linked, Passes.WordsFrom, Passes.Most, Passes.weight, Laws.Forest.left_suc}
 use Rattle.table.specs.{Laws.Forest.left_zero, Laws.Forest.first_none}
@@ -106,10 +107,10 @@ unfolding Most
 most_small t words w i e m k ws = omega (arith, k w ws)
 
 -- Rule 8.
-or_or : (p q r : Place) → or_place p (or_place q r) ≡ or_place (or_place p q) r
+or_or : (p q r : Option ℕ) → or_place p (or_place q r) ≡ or_place (or_place p q) r
 unfolding or_place
-or_or Nowhere q r = refl
-or_or (At x) q r = refl
+or_or None q r = refl
+or_or (Some x) q r = refl
 
 pub deeper_split : (l k : ℕ) (f : Forest) → deeper l f ≡ or_place (deeper l (first_trees k f)) (deeper l (other_trees k f))
 unfolding deeper or_place first_trees other_trees
@@ -117,9 +118,9 @@ deeper_split l zero f = refl
 deeper_split l (suc k) none = refl
 deeper_split zero (suc k) (tree n below rest) = refl
 deeper_split (suc l) (suc k) (tree n below rest) =
-    ap (λ (p : Place). or_place (deeper l below) p) (deeper_split (suc l) k rest) ∙ or_or (deeper l below) _ _
+    ap (λ (p : Option ℕ). or_place (deeper l below) p) (deeper_split (suc l) k rest) ∙ or_or (deeper l below) _ _
 
-shallow : (l : ℕ) (f : Forest) → weigh (weight Weight.Levels) f ≤ l → deeper l f ≡ Nowhere
+shallow : (l : ℕ) (f : Forest) → weigh (weight Weight.Levels) f ≤ l → deeper l f ≡ None
 unfolding deeper or_place weigh weight
 shallow l none h = refl
 shallow zero (tree n below rest) h = absurd (never h)
@@ -128,12 +129,12 @@ shallow zero (tree n below rest) h = absurd (never h)
     never h' = omega arith
 shallow (suc l) (tree n below rest) h = rw (shallow l below (omega arith), shallow (suc l) rest (omega arith))
 
-or_found : (q : Place) (p : ℕ) → (r : ℕ) × (or_place q (At p) ≡ At r)
+or_found : (q : Option ℕ) (p : ℕ) → (r : ℕ) × (or_place q (Some p) ≡ Some r)
 unfolding or_place
-or_found Nowhere p = (p, refl)
-or_found (At x) p = (x, refl)
+or_found None p = (p, refl)
+or_found (Some x) p = (x, refl)
 
-found : (l : ℕ) (f : Forest) → l < weigh (weight Weight.Levels) f → (p : ℕ) × (deeper l f ≡ At p)
+found : (l : ℕ) (f : Forest) → l < weigh (weight Weight.Levels) f → (p : ℕ) × (deeper l f ≡ Some p)
 unfolding deeper or_place weigh weight
 found l none h = absurd (never h)
   where
@@ -147,11 +148,11 @@ found (suc l) (tree n below rest) h =
     (eq-zero-or-pos (weigh (weight Weight.Levels) below - l))
 
 module _ (t : List ℕ) (e j left : ℕ) where
-  pub deep_here : j < e → left ≡ 0 → At j ≡ deeper left (trees t (e - j) j)
+  pub deep_here : j < e → left ≡ 0 → Some j ≡ deeper left (trees t (e - j) j)
   unfolding deeper trees node_over node_at
   deep_here h z = rw (left_suc e j h, z)
 
-  pub deep_end : e ≤ j → Nowhere ≡ deeper left (trees t (e - j) j)
+  pub deep_end : e ≤ j → None ≡ deeper left (trees t (e - j) j)
   unfolding deeper trees
   deep_end h = rw (left_zero e j h)
 
@@ -189,7 +190,7 @@ module _ (t : List ℕ) (e j left : ℕ) where
     pub deep_over : (v : ℕ) → x ≤ left → left ≤ 32 → Link t e j v → deeper left (trees t (e - j) j) ≡ deeper left (trees t (e - v) v)
     unfolding or_place
     deep_over v g small k =
-        two ∙ ap (λ (p : Place). or_place p (deeper left above)) (shallow (left - 1) below (omega (arith, own))) ∙
+        two ∙ ap (λ (p : Option ℕ). or_place p (deeper left above)) (shallow (left - 1) below (omega (arith, own))) ∙
         ap (λ (f : Forest). deeper left f) (sym skipped ∙ k.next)
 
 -- Rule 9.

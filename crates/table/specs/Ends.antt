@@ -1,16 +1,16 @@
 -- The array of subtree ends. Definitions only.
-use Rattle.std.specs.Prelude.{◌≡◌, cond, List, [], ◌∷◌, ℕ, zero, suc, ◌+◌, ◌-◌, ◌≤◌, ◌<◌, get_or, replicate, ltb}
+use Rattle.std.specs.Prelude.{◌≡◌, cond, List, [], ◌∷◌, ℕ, zero, suc, ◌+◌, ◌-◌, ◌≤◌, ◌<◌, get_or, replicate, ltb, Err, None, Ok, Option, Result, Some}
 use Rattle.words.specs.{Limits.most_nodes}
-use Rattle.table.specs.{declared.places.Place.Place, declared.places.Place.TheVariants.Nowhere, declared.places.Place.TheVariants.At}
-use Rattle.table.specs.{declared.answer.Answer.Answer, declared.answer.Answer.TheVariants.Accepted, declared.answer.Answer.TheVariants.Refused}
 use Rattle.table.specs.{Header.root, Nodes.sort_at, Order.fits, Forest.first_trees, Forest.other_trees, Forest.trees, Forest.size, Checked.checked}
+use Rattle.words.specs.{declared.refusal.Refusal.Refusal}
+use Rattle.table.specs.{declared.answer.Accepted.Accepted}
 
 -- "While reading, the checker keeps the end of the subtree for each of the 256 nodes."
 -- The end of the subtree that begins at node i, with m nodes from there to its tree's end: the place where one tree of its
 -- sort is complete.
-unfoldable pub place_or : ℕ → Place → ℕ
-place_or e Nowhere = e
-place_or e (At p) = p
+unfoldable pub place_or : ℕ → Option ℕ → ℕ
+place_or e None = e
+place_or e (Some p) = p
 
 unfoldable pub end_at : List ℕ → ℕ → ℕ → ℕ
 end_at t m i = place_or (i + m) (fits t m i (sort_at t i ∷ []))
@@ -32,9 +32,9 @@ unfoldable pub ends_all : List ℕ → List ℕ
 ends_all t = from (end_of_node t) most_nodes 0
 
 -- the array beside an answer: zeros beside a refusal (decided)
-unfoldable pub ends_for : Answer → List ℕ → List ℕ
-ends_for (Accepted n r) ends = ends
-ends_for (Refused why) ends = replicate most_nodes 0
+unfoldable pub ends_for : Result Accepted Refusal → List ℕ → List ℕ
+ends_for (Ok accepted) ends = ends
+ends_for (Err why) ends = replicate most_nodes 0
 
 unfoldable pub ends_beside : List ℕ → List ℕ
 ends_beside t = ends_for (checked t) (ends_all t)

@@ -1,9 +1,9 @@
 -- Nodes, and rule 6. Definitions only.
-use Rattle.std.specs.Prelude.{Bool, true, not, cond, ◌&&◌, List, ℕ, zero, suc, ◌+◌, ◌*◌, get_or, ltb, leb, eqb}
+use Rattle.std.specs.Prelude.{Bool, true, not, cond, ◌&&◌, List, ℕ, zero, suc, ◌+◌, ◌*◌, get_or, ltb, leb, eqb, None, Option, Some}
 use Rattle.words.specs.{Limits.most_reach}
 use Rattle.floats.specs.{Floats.finite, Floats.float_of}
-use Rattle.table.specs.{declared.kinds.Kind.Kind, declared.nodes.Node.Node, declared.header.Form.Form, declared.places.Place.Place}
-use Rattle.table.specs.{declared.places.Place.TheVariants.Nowhere, declared.places.Place.TheVariants.At, Bytes.u16, Bytes.u32, Bytes.u64, Kinds.kind_of}
+use Rattle.table.specs.{declared.kinds.Kind.Kind, declared.nodes.Node.Node, declared.header.Form.Form}
+use Rattle.table.specs.{Bytes.u16, Bytes.u32, Bytes.u64, Kinds.kind_of}
 use Rattle.table.specs.{declared.kinds.Children.Children, declared.kinds.NumberUse.NumberUse, Kinds.is_series, Kinds.takes_series, Kinds.second_version}
 use Rattle.table.specs.{Kinds.since_of, Header.form_of}
 
@@ -56,9 +56,9 @@ unfoldable pub node_right : List ℕ → ℕ → Bool
 node_right t i = own_right (form_of t) (node_at t i) (kind_of (node_at t i).kind)
 
 -- "6 a node's own bytes wrong: lowest such node", of the m nodes from node i on
-unfoldable pub wrong_node : List ℕ → ℕ → ℕ → Place
-wrong_node t zero i = Nowhere
-wrong_node t (suc m) i = cond (node_right t i) (wrong_node t m (i + 1)) (At i)
+unfoldable pub wrong_node : List ℕ → ℕ → ℕ → Option ℕ
+wrong_node t zero i = None
+wrong_node t (suc m) i = cond (node_right t i) (wrong_node t m (i + 1)) (Some i)
 
 -- What the table of kinds says of a node: its sort, how many children it takes, and of which sort.
 unfoldable pub sort_at : List ℕ → ℕ → ℕ

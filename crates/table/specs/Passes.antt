@@ -1,9 +1,9 @@
 -- What the parts of the check promise each other while they work: statements about the arrays that the passes fill.
 -- Definitions only, and none of them is in a promise of `check`.
-use Rattle.std.specs.Prelude.{◌≡◌, cond, List, ◌∷◌, ℕ, ◌+◌, ◌-◌, ◌*◌, ◌≤◌, ◌<◌, min, length, get_or, ltb}
+use Rattle.std.specs.Prelude.{◌≡◌, cond, List, ◌∷◌, ℕ, ◌+◌, ◌-◌, ◌*◌, ◌≤◌, ◌<◌, min, length, get_or, ltb, Option, Some}
 use Rattle.words.specs.{Limits.most_rows, Limits.most_nodes}
-use Rattle.table.specs.{declared.weighing.Weight.Weight, declared.trees.Roots.Roots, declared.nodes.Node.Node, declared.places.Place.Place}
-use Rattle.table.specs.{declared.places.Place.TheVariants.At, Header.total, Header.root}
+use Rattle.table.specs.{declared.weighing.Weight.Weight, declared.trees.Roots.Roots, declared.nodes.Node.Node}
+use Rattle.table.specs.{Header.total, Header.root}
 use Rattle.table.specs.{Nodes.sort_at, Nodes.child_count_at, Order.fits, Forest.first_trees, Forest.trees, Reach.weigh, Reach.own_back, Ends.Linked}
 
 -- From here on a word is no end, but a place and as much more.
@@ -12,8 +12,8 @@ misfit_from = 512
 
 -- Rule 7. Node i's word v, of a tree's nodes below e, is the end of the subtree that begins at node i, or `misfit_from` more than the
 -- place where that subtree stops fitting. `skips` says so in the terms of rule 7, whatever is wanted next.
-unfoldable pub fits_after : List ℕ → ℕ → ℕ → List ℕ → Place
-fits_after t e v ws = cond (ltb v misfit_from) (fits t (e - v) v ws) (At (v - misfit_from))
+unfoldable pub fits_after : List ℕ → ℕ → ℕ → List ℕ → Option ℕ
+fits_after t e v ws = cond (ltb v misfit_from) (fits t (e - v) v ws) (Some (v - misfit_from))
 
 pub record Ended (t : List ℕ) (e i v : ℕ) : Type 0 where
   pub skips : (ws : List ℕ) → fits t (e - i) i (sort_at t i ∷ ws) ≡ fits_after t e v ws

@@ -1,9 +1,8 @@
 -- Rule 9: how far back a tree reads. Definitions only.
-use Rattle.std.specs.Prelude.{cond, List, ℕ, ◌+◌, ◌-◌, max, ltb}
+use Rattle.std.specs.Prelude.{cond, List, ℕ, ◌+◌, ◌-◌, max, ltb, None, Option, Some}
 use Rattle.words.specs.{Limits.most_reach}
-use Rattle.table.specs.{declared.kinds.Kind.Kind, declared.kinds.Back.Back, declared.nodes.Node.Node, declared.places.Place.Place}
-use Rattle.table.specs.{declared.places.Place.TheVariants.Nowhere}
-use Rattle.table.specs.{declared.places.Place.TheVariants.At, Kinds.kind_of, Header.root, Order.of_four, Forest.Forest, Forest.none, Forest.tree}
+use Rattle.table.specs.{declared.kinds.Kind.Kind, declared.kinds.Back.Back, declared.nodes.Node.Node}
+use Rattle.table.specs.{Kinds.kind_of, Header.root, Order.of_four, Forest.Forest, Forest.none, Forest.tree}
 use Rattle.table.specs.{Forest.forest_of}
 
 -- "Reach: 0 for leaves, else the greatest child's (0 if none); Prev, Rising and Falling add n, a cross adds 1."
@@ -32,10 +31,10 @@ unfoldable pub tree_reach : List ℕ → ℕ → ℕ
 tree_reach t x = forest_reach (forest_of t x)
 
 -- "9 a reach above 4,095: first such tree's root"
-unfoldable pub far_at : ℕ → ℕ → Place
-far_at r b = cond (ltb most_reach r) (At b) Nowhere
+unfoldable pub far_at : ℕ → ℕ → Option ℕ
+far_at r b = cond (ltb most_reach r) (Some b) None
 
-unfoldable pub too_far : List ℕ → Place
+unfoldable pub too_far : List ℕ → Option ℕ
 too_far t = of_four (λ x. far_at (tree_reach t x) (root t x))
 
 -- "rows = greatest reach + 1"

@@ -1,12 +1,14 @@
 -- The tests of a table that fall silent over so few rows. Definitions only.
-use Rattle.std.specs.Prelude.{ℕ, ◌+◌, ◌<◌, min, Bool, true, false, cond, ◌&&◌, List, [], ◌∷◌, ◌++◌, ltb, leb, length, drop, set}
-use Rattle.words.specs.{Limits.most_rows, Outcome.refusal}
-use Rattle.table.specs.{declared.nodes.Node.Node, declared.answer.Answer.Answer, declared.answer.Answer.TheVariants.Accepted}
-use Rattle.table.specs.{declared.answer.Answer.TheVariants.Refused, declared.silent.SilentAnswer.SilentAnswer}
-use Rattle.table.specs.{declared.silent.SilentAnswer.TheVariants.Lists, declared.silent.SilentAnswer.TheVariants.Refuses, Kinds.is_test_kind, Header.root}
+use Rattle.std.specs.Prelude.{ℕ, ◌+◌, ◌<◌, min, Bool, true, false, cond, ◌&&◌, List, [], ◌∷◌, ◌++◌, ltb, leb, length, drop, set, Err, Ok, Result}
+use Rattle.words.specs.{Limits.most_rows}
+use Rattle.table.specs.{declared.nodes.Node.Node}
+use Rattle.table.specs.{Kinds.is_test_kind, Header.root}
 use Rattle.table.specs.{Forest.Forest, Forest.forest_of, Reach.own_back, Reach.weigh, Trees.Condition, Trees.Conditions, Trees.compare, Trees.cross}
 use Rattle.table.specs.{Trees.between, Trees.trend, Trees.every, Trees.any, Trees.negated, Trees.in_position, Trees.bars_since, Trees.none, Trees.more}
 use Rattle.table.specs.{Trees.reach_of, Reading.tree_of, Writing.nodes_of, Laws.Accepted.WholeTree}
+use Rattle.words.specs.{declared.refusal.Refusal.Refusal}
+use Rattle.table.specs.{declared.answer.Accepted.Accepted}
+use Rattle.words.specs.declared.refusal.Refusal.TheVariants as Refusal
 
 -- The tests: a comparison, a cross, Between, Rising and Falling. All else only joins their answers, or reads the position.
 unfoldable pub is_test : Condition → Bool
@@ -57,14 +59,14 @@ silent_tests t d = silent_of t d 0 ++ (silent_of t d 1 ++ (silent_of t d 2 ++ si
 -- ---- the call
 
 -- "1 to 9 come first"; then "10 a lent room below .. the bytes the call writes there": the list is room 18.
-unfoldable pub silent_answer : Answer → List ℕ → ℕ → SilentAnswer
-silent_answer (Refused why) numbers places = Refuses why
-silent_answer (Accepted nodes rows) numbers places = cond (ltb places (length numbers)) (Refuses (refusal 10 18)) (Lists (length numbers))
+unfoldable pub silent_answer : Result Accepted Refusal → List ℕ → ℕ → Result ℕ Refusal
+silent_answer (Err why) numbers places = Err why
+silent_answer (Ok accepted) numbers places = cond (ltb places (length numbers)) (Err (Refusal.Room 18)) (Ok (length numbers))
 
 -- The list afterwards: the numbers, and what stood past them. "A refusal .. changes nothing lent."
-unfoldable pub list_after_answer : SilentAnswer → List ℕ → List ℕ → List ℕ
-list_after_answer (Refuses why) numbers list = list
-list_after_answer (Lists n) numbers list = numbers ++ drop (length numbers) list
+unfoldable pub list_after_answer : Result ℕ Refusal → List ℕ → List ℕ → List ℕ
+list_after_answer (Err why) numbers list = list
+list_after_answer (Ok n) numbers list = numbers ++ drop (length numbers) list
 
 -- each tree has right bytes and right ends
 unfoldable pub WholeTrees : List ℕ → List ℕ → Type 0

@@ -14,27 +14,27 @@ pub mod silent;
 pub mod trees;
 mod weighing;
 
-ghost use Rattle.std.specs.Prelude.{◌≡◌, replicate};
+ghost use Rattle.std.specs.Prelude.{◌≡◌, replicate, Err};
 ghost use Rattle.words.specs.Limits.{most_nodes};
 ghost use Rattle.table.specs.Header.{header_refusal};
 ghost use Rattle.table.specs.Checked.{checked, checked_up_to, from7, from8, from9};
 ghost use Rattle.table.specs.Ends.{ends_all, ends_for, ends_beside};
 ghost use Rattle.table.specs.Passes.{AreRoots, LinkedAll};
 
-use answer::{Answer, Checked};
+use crate::answer::Accepted;
+use answer::Checked;
 use nesting::too_deep;
 use nodes::wrong_node;
 use order::{misfits_of, order_all};
-use places::Place;
 use reach::far_or_accepted;
 use trees::Roots;
 use words::refusal::Refusal;
 
 fn refused(refusal: Refusal) -> Checked
-    ensures { (result.answer ≡ Answer.Refused refusal) × (result.ends ≡ replicate most_nodes 0) }
+    ensures { (result.answer ≡ Err refusal) × (result.ends ≡ replicate most_nodes 0) }
 {
     Checked {
-        answer: Answer::Refused(refusal),
+        answer: Err(refusal),
         ends: [0usize; 256],
     }
 }
@@ -46,9 +46,9 @@ fn check_reach(t: &[u8], ends: [usize; 256], roots: Roots) -> Checked
 {
     let answer = far_or_accepted(t, &ends, roots);
     match answer {
-        Answer::Refused(refusal) => refused(refusal),
-        Answer::Accepted { nodes, rows } => Checked {
-            answer: Answer::Accepted { nodes, rows },
+        Err(refusal) => refused(refusal),
+        Ok(Accepted { nodes, rows }) => Checked {
+            answer: Ok(Accepted { nodes, rows }),
             ends,
         },
     }
@@ -61,11 +61,8 @@ fn check_nesting(t: &[u8], ends: [usize; 256], roots: Roots) -> Checked
 {
     let deep = too_deep(t, &ends, roots);
     match deep {
-        Place::At(p) => refused(Refusal {
-            number: 8,
-            place: p as u64,
-        }),
-        Place::Nowhere => check_reach(t, ends, roots),
+        Some(p) => refused(Refusal::Nesting(p as u64)),
+        None => check_reach(t, ends, roots),
     }
 }
 
@@ -76,11 +73,8 @@ fn check_order(t: &[u8], roots: Roots) -> Checked
     let ends = order_all(t, roots);
     let bad = misfits_of(t, &ends, roots);
     match bad {
-        Place::At(p) => refused(Refusal {
-            number: 7,
-            place: p as u64,
-        }),
-        Place::Nowhere => check_nesting(t, ends, roots),
+        Some(p) => refused(Refusal::Tree(p as u64)),
+        None => check_nesting(t, ends, roots),
     }
 }
 
@@ -92,11 +86,8 @@ fn check_nodes(t: &[u8], newest: usize) -> Checked
     let total = header::total(t);
     let wrong = wrong_node(t, total);
     match wrong {
-        Place::At(p) => refused(Refusal {
-            number: 6,
-            place: p as u64,
-        }),
-        Place::Nowhere => {
+        Some(p) => refused(Refusal::Node(p as u64)),
+        None => {
             let exit = header::root(t, 1);
             let short_entry = header::root(t, 2);
             let short_exit = header::root(t, 3);

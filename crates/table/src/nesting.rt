@@ -6,13 +6,13 @@ ghost use Rattle.table.specs.Nesting.{deeper, too_deep};
 ghost use Rattle.table.specs.Ends.{Linked};
 ghost use Rattle.table.specs.Passes.{AreRoots, LinkedAll};
 
-use crate::places::{Place, first_place};
+use crate::places::first_place;
 use crate::trees::Roots;
 use crate::weighing::{Weight, weigh_tree};
 use words::limits::MOST_NESTING;
 
 // The first node of one tree below more than 32 levels: down where a subtree is too tall, past it where it is not.
-fn deep_of(t: &[u8], ends: &[usize; 256], b: usize, e: usize) -> Place
+fn deep_of(t: &[u8], ends: &[usize; 256], b: usize, e: usize) -> Option<usize>
     requires b_le_e { (b ≤ e) × (e ≤ most_nodes) }
     requires linked { Linked t.now ends.now b e }
     ensures { result ≡ deeper most_nesting (trees t.now (e - b) b) }
@@ -23,7 +23,7 @@ fn deep_of(t: &[u8], ends: &[usize; 256], b: usize, e: usize) -> Place
     // what comes after node j is the next node or its subtree's end, so no range gives it
     while j < e {
         if left == 0 {
-            return Place::At(j);
+            return Some(j);
         }
         if left < tall[j] {
             left -= 1;
@@ -32,11 +32,11 @@ fn deep_of(t: &[u8], ends: &[usize; 256], b: usize, e: usize) -> Place
             j = ends[j];
         }
     }
-    Place::Nowhere
+    None
 }
 
 // The first node of the four trees below more than 32 levels.
-pub(crate) fn too_deep(t: &[u8], ends: &[usize; 256], roots: Roots) -> Place
+pub(crate) fn too_deep(t: &[u8], ends: &[usize; 256], roots: Roots) -> Option<usize>
     requires roots { AreRoots t.now roots }
     requires linked_all { LinkedAll t.now ends.now roots }
     ensures { result ≡ too_deep t.now }

@@ -7,7 +7,6 @@ ghost use Rattle.table.specs.Nodes.{sort_at, child_count, child_count_at, child_
 use crate::bytes::{byte, read16, read32, read64};
 use crate::header::{Form, form_of};
 use crate::kinds::{Children, Kind, NumberUse, SECOND, kind_of, since_of};
-use crate::places::Place;
 use words::limits::MOST_REACH;
 
 // A node: its number in the table, and its fields.
@@ -119,16 +118,16 @@ fn node_right(t: &[u8], form: Form, i: usize) -> bool
 }
 
 // Rule 6: the lowest wrong node of the first `total`.
-pub fn wrong_node(t: &[u8], total: usize) -> Place
+pub fn wrong_node(t: &[u8], total: usize) -> Option<usize>
     ensures { result ≡ wrong_node t.now total 0 }
 {
     let form = form_of(t);
     for i in 0..total {
         if !node_right(t, form, i) {
-            return Place::At(i);
+            return Some(i);
         }
     }
-    Place::Nowhere
+    None
 }
 
 // Node i's sort.

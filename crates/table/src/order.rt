@@ -7,7 +7,7 @@ ghost use Rattle.table.specs.Passes.{Ended, EndedFrom, Ordered, AreRoots, EndedA
 
 use crate::kinds::{CONDITION, kind_of};
 use crate::nodes::{child_count, child_fits, node_at, sort_at};
-use crate::places::{Place, first_place};
+use crate::places::first_place;
 use crate::trees::Roots;
 
 // From here on a word is no end, but the place where a subtree stops fitting and as much more. The two share a word, since the array of
@@ -67,25 +67,25 @@ fn order_tree(t: &[u8], given: [usize; 256], b: usize, e: usize) -> [usize; 256]
     ends
 }
 
-fn misfit_of(t: &[u8], ends: &[usize; 256], b: usize, e: usize) -> Place
+fn misfit_of(t: &[u8], ends: &[usize; 256], b: usize, e: usize) -> Option<usize>
     requires b_le_e { (b ≤ e) × (e ≤ most_nodes) }
     requires ended_from { EndedFrom t.now ends.now b e }
     ensures { result ≡ misfit t.now (e - b) b }
 {
     if e <= b {
-        return Place::Nowhere;
+        return None;
     }
     if sort_at(t, b) != CONDITION {
-        return Place::At(b);
+        return Some(b);
     }
     let v = ends[b];
     if MISFIT_FROM <= v {
-        return Place::At(v - MISFIT_FROM);
+        return Some(v - MISFIT_FROM);
     }
     if v < e {
-        return Place::At(v);
+        return Some(v);
     }
-    Place::Nowhere
+    None
 }
 
 // The ends of the four trees.
@@ -101,7 +101,7 @@ pub(crate) fn order_all(t: &[u8], roots: Roots) -> [usize; 256]
 }
 
 // The first place where one of the four trees stops fitting.
-pub(crate) fn misfits_of(t: &[u8], ends: &[usize; 256], roots: Roots) -> Place
+pub(crate) fn misfits_of(t: &[u8], ends: &[usize; 256], roots: Roots) -> Option<usize>
     requires roots { AreRoots t.now roots }
     requires ended_all { EndedAll t.now ends.now roots }
     ensures { result ≡ misfits t.now }

@@ -7,9 +7,8 @@ ghost use Rattle.table.specs.Reach.{forest_reach, far_at};
 ghost use Rattle.table.specs.Ends.{Linked};
 ghost use Rattle.table.specs.Checked.{from9};
 ghost use Rattle.table.specs.Passes.{AreRoots, LinkedAll};
-
-use crate::answer::Answer;
-use crate::places::{Place, first_place};
+use crate::answer::Accepted;
+use crate::places::first_place;
 use crate::trees::Roots;
 use crate::weighing::{Weight, capped, weigh_tree};
 use words::limits::MOST_REACH;
@@ -29,17 +28,17 @@ fn reach_of(t: &[u8], ends: &[usize; 256], b: usize, e: usize) -> u64
     far[b]
 }
 
-fn far_at(reach: u64, b: usize) -> Place
+fn far_at(reach: u64, b: usize) -> Option<usize>
     ensures { result ≡ far_at reach b }
 {
     if MOST_REACH < reach {
-        Place::At(b)
+        Some(b)
     } else {
-        Place::Nowhere
+        None
     }
 }
 
-fn too_far(w: u64, x: u64, y: u64, z: u64, roots: Roots) -> Place
+fn too_far(w: u64, x: u64, y: u64, z: u64, roots: Roots) -> Option<usize>
     ensures { result ≡ first_place (far_at w 0) (far_at x roots.exit) (far_at y roots.short_entry) (far_at z roots.short_exit) }
 {
     let p = far_at(w, 0);
@@ -57,7 +56,7 @@ fn rows_needed(w: u64, x: u64, y: u64, z: u64) -> u64
 }
 
 // Rule 9, and the answer where no rule is broken.
-pub(crate) fn far_or_accepted(t: &[u8], ends: &[usize; 256], roots: Roots) -> Answer
+pub(crate) fn far_or_accepted(t: &[u8], ends: &[usize; 256], roots: Roots) -> Result<Accepted, Refusal>
     requires roots { AreRoots t.now roots }
     requires linked_all { LinkedAll t.now ends.now roots }
     ensures { result ≡ from9 t.now }
@@ -70,10 +69,7 @@ pub(crate) fn far_or_accepted(t: &[u8], ends: &[usize; 256], roots: Roots) -> An
     let nodes = roots.end;
     let rows = rows_needed(w, x, y, z);
     match far {
-        Place::At(p) => Answer::Refused(Refusal {
-            number: 9,
-            place: p as u64,
-        }),
-        Place::Nowhere => Answer::Accepted { nodes, rows },
+        Some(p) => Err(Refusal::Reach(p as u64)),
+        None => Ok(Accepted { nodes, rows }),
     }
 }

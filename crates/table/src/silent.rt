@@ -8,20 +8,11 @@ ghost use Rattle.table.specs.Header.{root};
 ghost use Rattle.table.specs.Forest.{forest_of};
 ghost use Rattle.table.specs.Laws.Accepted.{WholeTree};
 ghost use Rattle.table.specs.Silent.{WholeTrees, silent_answer, list_after_answer, silent_nodes, four_silent, put_all};
-
-use crate::answer::Answer;
 use crate::kinds::{CONDITION, OPERAND, kind_of};
 use crate::nodes::node_at;
 use crate::weighing::{Weight, weigh_tree};
 use crate::{check, header};
 use words::refusal::Refusal;
-
-// The answer: how many tests were listed, or the refusal.
-#[derive(Clone, Copy)]
-pub enum SilentAnswer {
-    Lists(usize),
-    Refuses(Refusal),
-}
 
 // The number of the list, as a room.
 pub const ROOM_SILENT: u64 = 18;
@@ -79,7 +70,7 @@ fn list_all(t: &[u8], ends: &[usize; 256], d: u64, list: &mut [u64]) -> usize
 }
 
 // The node numbers of the tests that fall silent over `d` rows, in table order, into the list, which may be longer.
-pub fn silent_nodes(t: &[u8], d: u64, list: &mut [u64]) -> SilentAnswer
+pub fn silent_nodes(t: &[u8], d: u64, list: &mut [u64]) -> Result<usize, Refusal>
     ensures value { result ≡ silent_answer (checked t.now) (four_silent t.now d) (length list.old) }
     ensures list_after { list.new ≡ list_after_answer result (four_silent t.now d) list.old }
 {
@@ -87,17 +78,14 @@ pub fn silent_nodes(t: &[u8], d: u64, list: &mut [u64]) -> SilentAnswer
     let answer = checked.answer;
     let ends = checked.ends;
     match answer {
-        Answer::Refused(refusal) => SilentAnswer::Refuses(refusal),
-        Answer::Accepted { nodes: _, rows: _ } => {
+        Err(refusal) => Err(refusal),
+        Ok(_) => {
             let mut first = [0u64; 1];
             let count = list_all(t, &ends, d, &mut first);
             if list.len() < count {
-                return SilentAnswer::Refuses(Refusal {
-                    number: 10,
-                    place: ROOM_SILENT,
-                });
+                return Err(Refusal::Room(ROOM_SILENT));
             }
-            SilentAnswer::Lists(list_all(t, &ends, d, list))
+            Ok(list_all(t, &ends, d, list))
         }
     }
 }

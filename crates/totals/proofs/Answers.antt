@@ -1,14 +1,16 @@
 -- What each line of the two orders of refusals needs to be the answer. Assumes nothing.
+use Rattle.std.specs.Prelude.{Err, Ok, Result}
 use Rattle.words.specs.Prelude.{◌≡◌, refl, sym, ap, subst, ◌∙◌, Bool, true, false, cond, false≢true, List, [], ◌∷◌, ◌++◌, ℕ, ◌+◌, ◌*◌, ◌/◌, ◌%◌, ◌<◌, ◌≤◌}
 use Rattle.words.specs.Prelude.{arith, le-leb, lt-leb, eq-eqb, ne_eqb, leb-true, leb-false, leb, length}
-use Rattle.words.specs.{Words.word, Words.overwrite, Limits.trade_words, Limits.most_count, declared.refusal.Refusal.Refusal, Outcome.refusal}
+use Rattle.words.specs.{Words.word, Words.overwrite, Limits.trade_words, Limits.most_count, declared.refusal.Refusal.Refusal}
 use Rattle.floats.specs.{Floats.word_of}
-use Rattle.totals.specs.{declared.Answer.Answer, declared.Answer.TheVariants.Done, declared.Answer.TheVariants.Refused, Exact.nearest_to, Exact.number_in}
+use Rattle.totals.specs.{Exact.nearest_to, Exact.number_in}
 use Rattle.totals.specs.{Trades.Trade, Trades.trades_from, Trades.trades_of, Trades.good_start, Trades.judged_count, Trades.pnl_sum, Totals.total_words}
 use Rattle.totals.specs.{Totals.totals_room, Totals.count_size, Totals.AllAtMost, Totals.all_small, Totals.counts_of, Totals.sum_words, Totals.record_of}
 use Rattle.totals.specs.{Totals.with_counts, Totals.both_counts, Totals.sum_with, Totals.traded, Totals.counts_fine, Totals.unless, Totals.first_of}
 use Rattle.totals.specs.{Totals.add_answer, Totals.add_leaves, Totals.join_answer, Totals.join_leaves, Laws.Trades.length_trades, Laws.Trades.all_good}
 use Rattle.totals.specs.{Laws.Counts.small_all}
+use Rattle.words.specs.declared.refusal.Refusal.TheVariants as Refusal
 
 -- as many are judged as there are, where totals can hold them
 few : (n : ℕ) → n ≤ most_count → judged_count n ≡ n
@@ -59,13 +61,13 @@ at_most_as e f h = omega arith
 -- ---- lines of an order
 
 -- a line by itself, and then the lines after it
-first_line : (ok : Bool) (number at : ℕ) (later : Answer) → first_of (unless ok number at Done) later ≡ unless ok number at later
+first_line : (ok : Bool) (number at : ℕ) (later : Result (Unit {0}) Refusal) → first_of (unless ok number at (Ok tt)) later ≡ unless ok number at later
 unfolding first_of
 first_line true number at later = refl
 first_line false number at later = refl
 
 -- where two lines answer Done, both hold
-both_hold : (p q : Bool) (a b : Refusal) → cond p (cond q Done (Refused b)) (Refused a) ≡ Done → (p ≡ true) × (q ≡ true)
+both_hold : (p q : Bool) (a b : Refusal) → cond p (cond q (Ok tt) (Err b)) (Err a) ≡ Ok tt → (p ≡ true) × (q ≡ true)
 both_hold true true a b e = (refl, refl)
 both_hold true false a b e = absurd (let z : ◌≡◌ {A = ℕ} 0 1 = cc in omega arith)
 both_hold false q a b e = absurd (let z : ◌≡◌ {A = ℕ} 0 1 = cc in omega arith)
@@ -75,17 +77,17 @@ module _ (totals trades : List ℕ) where
   abbrev pub good : List Trade
   good = good_start (trades_from (judged_count (length trades / trade_words)) 0 trades)
 
-  pub add_short : length totals < total_words → add_answer totals trades ≡ Refused (refusal 10 totals_room)
+  pub add_short : length totals < total_words → add_answer totals trades ≡ Err (Refusal.Room totals_room)
   unfolding add_answer
   add_short h = simp (lt-leb _ _ h)
 
   module _ (long : total_words ≤ length totals) where
-    pub add_ragged : (length trades % trade_words ≡ 0 → ⊥) → add_answer totals trades ≡ Refused (refusal 13 0)
+    pub add_ragged : (length trades % trade_words ≡ 0 → ⊥) → add_answer totals trades ≡ Err Refusal.Records
     unfolding add_answer
     add_ragged h = simp (le-leb _ _ long, ne_eqb _ _ h)
 
     module _ (whole : length trades % trade_words ≡ 0) where
-      pub add_wrong : counts_fine (counts_of totals) ≡ false → add_answer totals trades ≡ Refused (refusal 13 0)
+      pub add_wrong : counts_fine (counts_of totals) ≡ false → add_answer totals trades ≡ Err Refusal.Records
       unfolding add_answer
       add_wrong h = simp (le-leb _ _ long, eq-eqb _ _ whole, h)
 
@@ -95,20 +97,20 @@ module _ (totals trades : List ℕ) where
 
         -- the two lines that are left
         add_left : add_answer totals trades
-            ≡ unless (leb (judged_count n) (length good)) 17 (length good) (unless (leb (traded (counts_of totals) + n) most_count) 22 0 Done)
+            ≡ unless (leb (judged_count n) (length good)) 17 (length good) (unless (leb (traded (counts_of totals) + n) most_count) 22 0 (Ok tt))
         unfolding add_answer
         add_left = simp (le-leb _ _ long, eq-eqb _ _ whole, fine)
 
         -- the first of two judgements decides, where each is a line's
-        pub add_judged : {g j m : ℕ} {bad many said : Answer} → g ≡ length good → j ≡ judged_count n → m ≡ traded (counts_of totals) + n
-            → bad ≡ unless (leb j g) 17 g Done → many ≡ unless (leb m most_count) 22 0 Done → said ≡ first_of bad many → add_answer totals trades ≡ said
+        pub add_judged : {g j m : ℕ} {bad many said : Result (Unit {0}) Refusal} → g ≡ length good → j ≡ judged_count n → m ≡ traded (counts_of totals) + n
+            → bad ≡ unless (leb j g) 17 g (Ok tt) → many ≡ unless (leb m most_count) 22 0 (Ok tt) → said ≡ first_of bad many → add_answer totals trades ≡ said
         add_judged {g} {j} {m} {bad} {many} {said} u v w x y z =
-            let over = unless (leb m most_count) 22 0 Done in
-            add_left ∙ sym (z ∙ ap (λ (q : Answer). first_of q many) x ∙ ap (first_of (unless (leb j g) 17 g Done)) y ∙ first_line (leb j g) 17 g over
+            let over = unless (leb m most_count) 22 0 (Ok tt) in
+            add_left ∙ sym (z ∙ ap (λ (q : Result (Unit {0}) Refusal). first_of q many) x ∙ ap (first_of (unless (leb j g) 17 g (Ok tt))) y ∙ first_line (leb j g) 17 g over
             ∙ ap (λ (k : ℕ). unless (leb j k) 17 k over) u ∙ ap (λ (k : ℕ). unless (leb k (length good)) 17 (length good) over) v
-            ∙ ap (λ (k : ℕ). unless (leb (judged_count n) (length good)) 17 (length good) (unless (leb k most_count) 22 0 Done)) w)
+            ∙ ap (λ (k : ℕ). unless (leb (judged_count n) (length good)) 17 (length good) (unless (leb k most_count) 22 0 (Ok tt))) w)
 
-        module _ (done : add_answer totals trades ≡ Done) where
+        module _ (done : add_answer totals trades ≡ Ok tt) where
           both : (leb (judged_count n) (length good) ≡ true) × (leb (traded (counts_of totals) + n) most_count ≡ true)
           both = both_hold _ _ _ _ (sym add_left ∙ done)
 
@@ -123,51 +125,51 @@ module _ (totals trades : List ℕ) where
               ∙ ap (λ (k : ℕ). trades_from k 0 trades) same
 
   -- beside a refusal nothing changes ..
-  pub add_keeps : (why : Refusal) → add_answer totals trades ≡ Refused why → totals ≡ add_leaves totals trades
+  pub add_keeps : (why : Refusal) → add_answer totals trades ≡ Err why → totals ≡ add_leaves totals trades
   unfolding add_leaves
   add_keeps why h = simp h
 
   -- .. and else the record is written
-  pub add_writes : add_answer totals trades ≡ Done
+  pub add_writes : add_answer totals trades ≡ Ok tt
       → add_leaves totals trades
       ≡ overwrite totals 0 (record_of (with_counts (counts_of totals) (trades_of trades)) (sum_with (sum_words totals) (pnl_sum (trades_of trades))))
   unfolding add_leaves
   add_writes h = simp h
 
 module _ (totals other : List ℕ) where
-  pub join_short : length totals < total_words → join_answer totals other ≡ Refused (refusal 10 totals_room)
+  pub join_short : length totals < total_words → join_answer totals other ≡ Err (Refusal.Room totals_room)
   unfolding join_answer
   join_short h = simp (lt-leb _ _ h)
 
   module _ (long : total_words ≤ length totals) where
-    pub join_ragged : (length other ≡ total_words → ⊥) → join_answer totals other ≡ Refused (refusal 13 0)
+    pub join_ragged : (length other ≡ total_words → ⊥) → join_answer totals other ≡ Err Refusal.Records
     unfolding join_answer
     join_ragged h = simp (le-leb _ _ long, ne_eqb _ _ h)
 
     module _ (whole : length other ≡ total_words) where
-      pub join_wrong : counts_fine (counts_of totals) ≡ false → join_answer totals other ≡ Refused (refusal 13 0)
+      pub join_wrong : counts_fine (counts_of totals) ≡ false → join_answer totals other ≡ Err Refusal.Records
       unfolding join_answer
       join_wrong h = simp (le-leb _ _ long, eq-eqb _ _ whole, h)
 
       module _ (fine : counts_fine (counts_of totals) ≡ true) where
-        pub join_other : counts_fine (counts_of other) ≡ false → join_answer totals other ≡ Refused (refusal 13 0)
+        pub join_other : counts_fine (counts_of other) ≡ false → join_answer totals other ≡ Err Refusal.Records
         unfolding join_answer
         join_other h = simp (le-leb _ _ long, eq-eqb _ _ whole, fine, h)
 
         module _ (fine-too : counts_fine (counts_of other) ≡ true) where
-          pub join_many : most_count < traded (counts_of totals) + traded (counts_of other) → join_answer totals other ≡ Refused (refusal 22 0)
+          pub join_many : most_count < traded (counts_of totals) + traded (counts_of other) → join_answer totals other ≡ Err Refusal.Total
           unfolding join_answer
           join_many h = simp (le-leb _ _ long, eq-eqb _ _ whole, fine, fine-too, lt-leb _ _ h)
 
-          pub join_done : traded (counts_of totals) + traded (counts_of other) ≤ most_count → join_answer totals other ≡ Done
+          pub join_done : traded (counts_of totals) + traded (counts_of other) ≤ most_count → join_answer totals other ≡ Ok tt
           unfolding join_answer
           join_done h = simp (le-leb _ _ long, eq-eqb _ _ whole, fine, fine-too, le-leb _ _ h)
 
-  pub join_keeps : (why : Refusal) → join_answer totals other ≡ Refused why → totals ≡ join_leaves totals other
+  pub join_keeps : (why : Refusal) → join_answer totals other ≡ Err why → totals ≡ join_leaves totals other
   unfolding join_leaves
   join_keeps why h = simp h
 
-  pub join_writes : join_answer totals other ≡ Done
+  pub join_writes : join_answer totals other ≡ Ok tt
       → join_leaves totals other
       ≡ overwrite totals 0 (record_of (both_counts (counts_of totals) (counts_of other)) (sum_with (sum_words totals) (number_in (sum_words other))))
   unfolding join_leaves

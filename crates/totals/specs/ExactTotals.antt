@@ -1,12 +1,12 @@
 -- EXACT TOTALS: every way to total the same trades does its work and leaves the same 43 words. Assumes nothing.
-use Rattle.std.specs.Prelude.{◌≡◌, refl, Bool, true, false, List, [], ◌∷◌, ◌++◌, ℕ, zero, suc, ◌+◌, ◌/◌, ◌%◌, ◌≤◌, eqb, length, drop, replicate, ℤ, ◌+ℤ◌}
+use Rattle.std.specs.Prelude.{◌≡◌, refl, Bool, true, false, List, [], ◌∷◌, ◌++◌, ℕ, zero, suc, ◌+◌, ◌/◌, ◌%◌, ◌≤◌, eqb, length, drop, replicate, ℤ, ◌+ℤ◌, Ok}
 use Rattle.words.specs.Prelude.{to_bits}
 use Rattle.words.specs.Prelude.{sym, ap, subst, ◌∙◌, append-nil}
 use Rattle.words.specs.Prelude.{arith, le-leb, eq-eqb, length-append, take_at, drop-length}
 use Rattle.words.specs.Prelude.{le, round}
 use Rattle.words.specs.{Words.word, Words.overwrite, Limits.trade_words, Limits.most_count, Laws.Overwrite.overwrite_fits}
 use Rattle.floats.specs.{Floats.word_of, Floats.float_of, Floats.◌≼◌, Laws.Order.not_above}
-use Rattle.totals.specs.{Number.place, Number.words_of, declared.Answer.TheVariants.Done, Exact.number_in, Exact.words_for, Exact.nearest_to, Exact.residue}
+use Rattle.totals.specs.{Number.place, Number.words_of, Exact.number_in, Exact.words_for, Exact.nearest_to, Exact.residue}
 use Rattle.totals.specs.{Exact.sum_size, Trades.Trade, Trades.acceptable, Trades.trades_of, Trades.trades_from, Trades.good_start, Trades.judged_count}
 use Rattle.totals.specs.{Trades.bit_of, Trades.count_of, Trades.ended_by, Trades.won, Trades.lost, Trades.pnl_sum, Totals.total_words, Totals.count_size}
 use Rattle.totals.specs.{Totals.counts_of, Totals.sum_words, Totals.record_of, Totals.with_counts, Totals.both_counts, Totals.sum_with, Totals.traded}
@@ -168,7 +168,7 @@ module _ {xs : List Trade} (list : List ℕ) (whole : length list % trade_words 
       same : length (good_start (trades_from (length list / trade_words) 0 list)) ≡ length list / trade_words
       same = same_good list new ∙ many
 
-  add_does : add_answer (totals_of xs) list ≡ Done
+  add_does : add_answer (totals_of xs) list ≡ Ok tt
   unfolding add_answer
   add_does =
       let long : total_words ≤ length (totals_of xs) = omega (arith, length_totals xs) in
@@ -197,7 +197,7 @@ module _ {xs ys : List Trade} (old : Acceptable xs) (new : Acceptable ys) (both 
   few_both : (length xs ≤ most_count) × (length ys ≤ most_count) × (length xs + length ys ≤ most_count)
   few_both = let all = length-append xs ys in (omega arith, omega arith, omega arith)
 
-  join_does : join_answer (totals_of xs) (totals_of ys) ≡ Done
+  join_does : join_answer (totals_of xs) (totals_of ys) ≡ Ok tt
   unfolding join_answer
   join_does =
       let long : total_words ≤ length (totals_of xs) = omega (arith, length_totals xs) in

@@ -1,10 +1,11 @@
 -- The record of totals, and the two calls that keep it. Definitions only.
-use Rattle.std.specs.Prelude.{Bool, true, false, cond, List, [], ◌∷◌, ◌++◌, ℕ, ◌+◌, ◌/◌, ◌%◌, ◌≤◌, leb, eqb, length, get_or, take, drop, ℤ, ◌+ℤ◌}
-use Rattle.words.specs.{Words.word, Words.overwrite, Limits.trade_words, Limits.most_count, Outcome.refusal}
+use Rattle.std.specs.Prelude.{Bool, true, false, cond, List, [], ◌∷◌, ◌++◌, ℕ, ◌+◌, ◌/◌, ◌%◌, ◌≤◌, leb, eqb, length, get_or, take, drop, ℤ, ◌+ℤ◌, Err, Ok, Result}
+use Rattle.words.specs.{Words.word, Words.overwrite, Limits.trade_words, Limits.most_count}
 use Rattle.floats.specs.{Floats.word_of}
-use Rattle.totals.specs.{declared.Answer.Answer, declared.Answer.TheVariants.Done, declared.Answer.TheVariants.Refused, Exact.number_in, Exact.words_for}
+use Rattle.totals.specs.{Exact.number_in, Exact.words_for}
 use Rattle.totals.specs.{Exact.nearest_to, Exact.sum_size, Trades.Trade, Trades.trades_from, Trades.trades_of, Trades.good_start, Trades.judged_count}
 use Rattle.totals.specs.{Trades.count_of, Trades.ended_by, Trades.won, Trades.lost, Trades.pnl_sum}
+use Rattle.words.specs.{declared.refusal.Refusal.Refusal}
 
 -- ---- the record: eight counts, the sum, the float
 
@@ -71,16 +72,16 @@ unfoldable pub counts_fine : List ℕ → Bool
 counts_fine c = cond (all_small c) (leb (word c 6 + word c 7) (traded c)) false
 
 -- a line of the order: where it does not hold it is the answer; else what follows decides
-abbrev pub unless : Bool → ℕ → ℕ → Answer → Answer
-unless ok number at later = cond ok later (Refused (refusal number at))
+abbrev pub unless : Bool → ℕ → ℕ → Result (Unit {0}) Refusal → Result (Unit {0}) Refusal
+unless ok number at later = cond ok later (Err (refusal number at))
 
 -- of two lines the first that refuses
-unfoldable pub first_of : Answer → Answer → Answer
-first_of Done later = later
-first_of (Refused why) later = Refused why
+unfoldable pub first_of : Result (Unit {0}) Refusal → Result (Unit {0}) Refusal → Result (Unit {0}) Refusal
+first_of (Ok tt) later = later
+first_of (Err why) later = Err why
 
 -- "after 13, 17 for a pnl that is not finite or a reason outside 1 to 6, with its trade number, then 22 at 0 if the trades would pass 2^32 − 1"
-unfoldable pub add_answer : List ℕ → List ℕ → Answer
+unfoldable pub add_answer : List ℕ → List ℕ → Result (Unit {0}) Refusal
 add_answer totals trades =
     let n = length trades / trade_words in
     let good = good_start (trades_from (judged_count n) 0 trades) in
@@ -88,21 +89,21 @@ add_answer totals trades =
     (unless (eqb (length trades % trade_words) 0) 13 0
     (unless (counts_fine (counts_of totals)) 13 0
     (unless (leb (judged_count n) (length good)) 17 (length good)
-    (unless (leb (traded (counts_of totals) + n) most_count) 22 0 Done))))
+    (unless (leb (traded (counts_of totals) + n) most_count) 22 0 (Ok tt)))))
 
-unfoldable pub join_answer : List ℕ → List ℕ → Answer
+unfoldable pub join_answer : List ℕ → List ℕ → Result (Unit {0}) Refusal
 join_answer totals other =
     unless (leb total_words (length totals)) 10 totals_room
     (unless (eqb (length other) total_words) 13 0
     (unless (counts_fine (counts_of totals)) 13 0
     (unless (counts_fine (counts_of other)) 13 0
-    (unless (leb (traded (counts_of totals) + traded (counts_of other)) most_count) 22 0 Done))))
+    (unless (leb (traded (counts_of totals) + traded (counts_of other)) most_count) 22 0 (Ok tt)))))
 
 -- ---- what a call leaves: "the totals stay as they were" beside a refusal
 
-abbrev pub left : Answer → List ℕ → List ℕ → List ℕ
-left Done before after = after
-left (Refused why) before after = before
+abbrev pub left : Result (Unit {0}) Refusal → List ℕ → List ℕ → List ℕ
+left (Ok tt) before after = after
+left (Err why) before after = before
 
 unfoldable pub add_leaves : List ℕ → List ℕ → List ℕ
 add_leaves totals trades =

@@ -1,8 +1,8 @@
 -- Every way to make totals: lists added one after another, totals joined. Definitions only.
-use Rattle.std.specs.Prelude.{◌≡◌, List, [], ◌∷◌, ◌++◌, ℕ, ◌%◌, length, replicate}
+use Rattle.std.specs.Prelude.{◌≡◌, List, [], ◌∷◌, ◌++◌, ℕ, ◌%◌, length, replicate, Ok}
 use Rattle.words.specs.{Limits.trade_words}
 use Rattle.floats.specs.{Floats.word_of}
-use Rattle.totals.specs.{declared.Answer.TheVariants.Done, Exact.words_for, Exact.nearest_to, Trades.Trade, Trades.trades_of, Trades.pnl_sum}
+use Rattle.totals.specs.{Exact.words_for, Exact.nearest_to, Trades.Trade, Trades.trades_of, Trades.pnl_sum}
 use Rattle.totals.specs.{Totals.total_words, Totals.with_counts, Totals.add_answer, Totals.add_leaves, Totals.join_answer, Totals.join_leaves}
 
 pub data Way : Type 0 where
@@ -22,8 +22,8 @@ made (join v w) = join_leaves (made v) (made w)
 -- every call of it does its work
 unfoldable pub AllDone : Way → Type 0
 AllDone begin = Unit {0}
-AllDone (add w list) = AllDone w × (add_answer (made w) list ≡ Done)
-AllDone (join v w) = AllDone v × AllDone w × (join_answer (made v) (made w) ≡ Done)
+AllDone (add w list) = AllDone w × (add_answer (made w) list ≡ Ok tt)
+AllDone (join v w) = AllDone v × AllDone w × (join_answer (made v) (made w) ≡ Ok tt)
 
 -- the trades that it is about
 unfoldable pub trades_in : Way → List Trade

@@ -5,10 +5,9 @@ mod counts;
 mod nearest;
 mod sum;
 
-ghost use Rattle.std.specs.Prelude.{◌≡◌, ◌++◌, ◌∷◌, [], leb};
+ghost use Rattle.std.specs.Prelude.{◌≡◌, ◌++◌, ◌∷◌, [], leb, Err, Ok};
 ghost use Rattle.words.specs.Words.{overwrite};
 ghost use Rattle.words.specs.Limits.{most_count};
-ghost use Rattle.totals.specs.declared.Answer.TheVariants.{Done, Refused};
 ghost use Rattle.totals.specs.Trades.{judged_count};
 ghost use Rattle.totals.specs.Totals.{unless, first_of, add_answer, add_leaves, join_answer, join_leaves};
 
@@ -22,17 +21,10 @@ pub const TOTAL_WORDS: usize = 43;
 // The number of the room that holds totals.
 const TOTALS_ROOM: u64 = 11;
 
-// All is in the totals now, or a refusal: then they are as they were.
-#[derive(Clone, Copy)]
-pub enum Answer {
-    Done,
-    Refused(Refusal),
-}
-
-fn refused(number: u64, place: u64) -> Answer
-    ensures { result ≡ Refused (record { number = number; place = place }) }
+fn refused(number: u64, place: u64) -> Result<(), Refusal>
+    ensures { result ≡ Err (record { number = number; place = place }) }
 {
-    Answer::Refused(Refusal {
+    Err(Refusal {
         number: number,
         place: place,
     })
@@ -50,49 +42,49 @@ fn judged_count(n: usize) -> usize
 }
 
 // 17 at the first trade that cannot be counted, where so many of those that are judged can be.
-fn bad_trade(good: usize, judged: usize) -> Answer
-    ensures { result ≡ unless (leb judged good) 17 good Done }
+fn bad_trade(good: usize, judged: usize) -> Result<(), Refusal>
+    ensures { result ≡ unless (leb judged good) 17 good (Ok tt) }
 {
     if good < judged {
-        return refused(17, good as u64);
+        return Err(Refusal::Trade(good as u64));
     }
-    Answer::Done
+    Ok(())
 }
 
 // 22 where totals cannot hold so many trades.
-fn too_many(trades: u64) -> Answer
-    ensures { result ≡ unless (leb trades most_count) 22 0 Done }
+fn too_many(trades: u64) -> Result<(), Refusal>
+    ensures { result ≡ unless (leb trades most_count) 22 0 (Ok tt) }
 {
     if MOST_COUNT < trades {
-        return refused(22, 0);
+        return Err(Refusal::Total);
     }
-    Answer::Done
+    Ok(())
 }
 
 // Of two judgements the first that refuses.
-fn first_of(one: Answer, two: Answer) -> Answer
+fn first_of(one: Result<(), Refusal>, two: Result<(), Refusal>) -> Result<(), Refusal>
     ensures { result ≡ first_of one two }
 {
     match one {
-        Answer::Done => two,
-        Answer::Refused(why) => Answer::Refused(why),
+        Ok(()) => two,
+        Err(why) => Err(why),
     }
 }
 
 // Adds a list of trades to the totals.
-pub fn add(totals: &mut [u64], trades: &[u64]) -> Answer
+pub fn add(totals: &mut [u64], trades: &[u64]) -> Result<(), Refusal>
     ensures { (result ≡ add_answer totals.old trades.now)
         × (totals.new ≡ add_leaves totals.old trades.now) }
 {
     if totals.len() < TOTAL_WORDS {
-        return refused(10, TOTALS_ROOM);
+        return Err(Refusal::Room(TOTALS_ROOM));
     }
     if trades.len() % TRADE_WORDS != 0 {
-        return refused(13, 0);
+        return Err(Refusal::Records);
     }
     let mut counts = counts::counts_of(totals);
     if !counts::fine(&counts) {
-        return refused(13, 0);
+        return Err(Refusal::Records);
     }
     let traded = counts::traded(&counts);
     let n = trades.len() / TRADE_WORDS;
@@ -101,45 +93,45 @@ pub fn add(totals: &mut [u64], trades: &[u64]) -> Answer
     let bad = bad_trade(good, judged);
     let many = too_many(traded + n as u64);
     let judgement = first_of(bad, many);
-    if let Answer::Refused(why) = judgement {
-        return Answer::Refused(why);
+    if let Err(why) = judgement {
+        return Err(why);
     }
     let before = sum::sum_of(totals);
     let mut after = before;
     sum::add_trades(&mut after, trades);
     let float = nearest::nearest_to(&after);
     put_totals(totals, &counts, &after, float);
-    Answer::Done
+    Ok(())
 }
 
 // Adds other totals to the totals.
-pub fn join(totals: &mut [u64], other: &[u64]) -> Answer
+pub fn join(totals: &mut [u64], other: &[u64]) -> Result<(), Refusal>
     ensures { (result ≡ join_answer totals.old other.now)
         × (totals.new ≡ join_leaves totals.old other.now) }
 {
     if totals.len() < TOTAL_WORDS {
-        return refused(10, TOTALS_ROOM);
+        return Err(Refusal::Room(TOTALS_ROOM));
     }
     if other.len() != TOTAL_WORDS {
-        return refused(13, 0);
+        return Err(Refusal::Records);
     }
     let counts = counts::counts_of(totals);
     if !counts::fine(&counts) {
-        return refused(13, 0);
+        return Err(Refusal::Records);
     }
     let more = counts::counts_of(other);
     if !counts::fine(&more) {
-        return refused(13, 0);
+        return Err(Refusal::Records);
     }
     if MOST_COUNT < counts::traded(&counts) + counts::traded(&more) {
-        return refused(22, 0);
+        return Err(Refusal::Total);
     }
     let both = counts::both_counts(&counts, &more);
     let mut sum = sum::sum_of(totals);
     sum::add_sum(&mut sum, other);
     let float = nearest::nearest_to(&sum);
     put_totals(totals, &both, &sum, float);
-    Answer::Done
+    Ok(())
 }
 
 // Writes the 43 words.

@@ -1,9 +1,8 @@
 -- Every bar that a run took has finite prices: 11 sees to it.
-use Rattle.std.specs.Prelude.{ℕ, ◌≡◌, Bool, true, false, ◌&&◌, List, [], ◌∷◌, ◌++◌, take}
+use Rattle.std.specs.Prelude.{ℕ, ◌≡◌, Bool, true, false, ◌&&◌, List, [], ◌∷◌, ◌++◌, take, Ok}
 use Rattle.floats.specs.{Floats.finite}
 use Rattle.portfolio.specs.{declared.Candle.Candle}
 use Rattle.records.specs.{declared.settings.Settings.Settings, declared.state.State.State, Bar.candle_of, Lent.Lists, Lent.Rooms}
-use Rattle.refusals.specs.{declared.verdict.Verdict.TheVariants.Fine}
 use Rattle.refusals.specs.{Bar.candle_fine, Bar.bar_lines, Judgement.run_lines, Judgement.step_lines, Laws.Lines.and_true, Laws.Lines.first_holds}
 use Rattle.refusals.specs.{Laws.Lines.both_fine, Rooms.place_lines}
 use Rattle.engine.specs.{Laws.Runs.run_none, Run.run_over, Step.stepped, Step.size_lines, Step.step_verdict}
@@ -15,7 +14,7 @@ AllFine [] = Unit {0}
 AllFine (bar ∷ bars) = (candle_fine (candle_of bar) ≡ true) × AllFine bars
 
 -- a bar that is taken
-pub taken_fine : (s : Settings) (t : State) (bar : List ℕ) (m : Rooms) (ls : Lists) → step_verdict s t bar m ls ≡ Fine → candle_fine (candle_of bar) ≡ true
+pub taken_fine : (s : Settings) (t : State) (bar : List ℕ) (m : Rooms) (ls : Lists) → step_verdict s t bar m ls ≡ Ok tt → candle_fine (candle_of bar) ≡ true
 unfolding step_verdict step_lines bar_lines
 taken_fine s t bar m ls h =
     let handed = (both_fine (step_lines s t bar m ls) (size_lines s t bar m) h).0 in

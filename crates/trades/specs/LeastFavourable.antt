@@ -1,13 +1,11 @@
 -- Request 6: the least favourable price of each trade of a run is as bad as its fill and as every bar's from the entry bar on, and is one of them.
 -- A fill need not be finite (docs/DECISIONS.md), so nothing is asked of it.
-use Rattle.std.specs.Prelude.{ℕ, ◌≡◌, refl, ◌⊎◌, Bool, true, false, List, [], ◌∷◌, ◌++◌, Float, take}
+use Rattle.std.specs.Prelude.{ℕ, ◌≡◌, refl, ◌⊎◌, Bool, true, false, List, [], ◌∷◌, ◌++◌, Float, take, Ok, Option}
 use Rattle.words.specs.Prelude.{◌∙◌, inl, inr, false≢true, nan, inf, fin}
 use Rattle.floats.specs.{Floats.◌≺◌, Floats.finite, Floats.zero, Laws.Order.numbers, Laws.Order.itself, Laws.Order.in_turn, Laws.Order.min_is}
 use Rattle.floats.specs.{Laws.Order.max_is, Laws.Order.min_first, Laws.Order.min_second, Laws.Order.max_first, Laws.Order.max_second}
-use Rattle.rules.specs.{declared.position.Entered.Entered as EntryBar}
 use Rattle.portfolio.specs.{declared.Trade.Trade, Portfolio.worse}
 use Rattle.records.specs.{declared.settings.Settings.Settings, Bar.candle_of, Lent.Lists, Lent.Rooms, State.fresh_state}
-use Rattle.refusals.specs.{declared.verdict.Verdict.TheVariants.Fine}
 use Rattle.engine.specs.{Books.trades_of, Finish.last_exit, Run.Run, Run.run_over, Step.fill_of, Step.step_verdict}
 use Rattle.runs.specs.{During.against, During.worst_over, During.as_bad, During.AsBadAsEach, During.OneOfThem, During.AllFinite, Recorded.Recorded}
 use Rattle.runs.specs.{Recorded.RecordedAtEnd, Recorded.Each, Recorded.recorded, Recorded.recorded_end}
@@ -79,11 +77,11 @@ least_of long price (bar ∷ bars) g =
 -- ---- the trades of a run
 
 -- a trade as recorded, and its price the least favourable of its fill and of its bars
-pub record Least (s : Settings) (bars : List (List ℕ)) (bar : List ℕ) (e : EntryBar) (t : Trade) : Type 0 where
+pub record Least (s : Settings) (bars : List (List ℕ)) (bar : List ℕ) (e : Option ℕ) (t : Trade) : Type 0 where
   pub recorded : Recorded s bars bar e t
   pub least : LeastOf (zero ≺ t.qty) t.entry_price (recorded.since ++ (bar ∷ [])) t.worst
 
-pub record LeastAtEnd (s : Settings) (bars : List (List ℕ)) (e : EntryBar) (t : Trade) : Type 0 where
+pub record LeastAtEnd (s : Settings) (bars : List (List ℕ)) (e : Option ℕ) (t : Trade) : Type 0 where
   pub recorded : RecordedAtEnd s bars e t
   pub least : LeastOf (zero ≺ t.qty) t.entry_price recorded.since t.worst
 
@@ -96,7 +94,7 @@ each P Q f (t ∷ ts) h = (f t h.0, each P Q f ts h.1)
 since_fine : (bars before since : List (List ℕ)) → AllFine bars → bars ≡ before ++ since → AllFine since
 since_fine bars before since h e = fine_after before since (rw e at h)
 
-least_is : (s : Settings) (bars : List (List ℕ)) (bar : List ℕ) (e : EntryBar) (t : Trade) → AllFine bars → AllFine (bar ∷ []) → Recorded s bars bar e t
+least_is : (s : Settings) (bars : List (List ℕ)) (bar : List ℕ) (e : Option ℕ) (t : Trade) → AllFine bars → AllFine (bar ∷ []) → Recorded s bars bar e t
     → Least s bars bar e t
 least_is s bars bar e t fine own x = record {
   recorded = x;
@@ -108,7 +106,7 @@ least_is s bars bar e t fine own x = record {
 -- IN EVERY RUN from a fresh state, of each trade that a bar closes: left by order, or inside the bar
 pub least_recorded : (s : Settings) (ls : Lists) (m : Rooms) (bars : List (List ℕ)) (bar : List ℕ)
     → let r = run_over s ls (fresh_state s) m bars in
-    (fine : step_verdict s r.state bar r.rooms ls ≡ Fine)
+    (fine : step_verdict s r.state bar r.rooms ls ≡ Ok tt)
     → let a = recorded s ls m bars bar fine in
     Each (Least s (take r.done bars) bar r.state.position.entered) a.by_order
     × Each (Least s (take r.done bars) bar (fill_of s r.state bar r.rooms).position.entered) a.inside_bar
@@ -118,8 +116,8 @@ least_recorded s ls m bars bar fine =
     let all : AllFine done = run_fine s ls bars (fresh_state s) m in
     let own : AllFine (bar ∷ []) = unfold AllFine in (taken_fine s r.state bar r.rooms ls fine, tt) in
     let a = recorded s ls m bars bar fine in
-    let found : EntryBar = r.state.position.entered in
-    let left : EntryBar = (fill_of s r.state bar r.rooms).position.entered in (
+    let found : Option ℕ = r.state.position.entered in
+    let left : Option ℕ = (fill_of s r.state bar r.rooms).position.entered in (
       each (Recorded s done bar found) (Least s done bar found) (λ t x. least_is s done bar found t all own x) a.by_order a.each_by_order,
       each (Recorded s done bar left) (Least s done bar left) (λ t x. least_is s done bar left t all own x) a.inside_bar a.each_inside,
     )
@@ -131,7 +129,7 @@ pub least_recorded_end : (s : Settings) (ls : Lists) (m : Rooms) (bars : List (L
 least_recorded_end s ls m bars =
     let r : Run = run_over s ls (fresh_state s) m bars in
     let done = take r.done bars in
-    let e : EntryBar = r.state.position.entered in
+    let e : Option ℕ = r.state.position.entered in
     each (RecordedAtEnd s done e) (LeastAtEnd s done e) (λ t x. record {
       recorded = x;
       least = rw x.worst

@@ -1,16 +1,15 @@
 -- No dust (request 7): a box that a run leaves is in a position, with an entry bar, or holds nothing: its quantity is 0 and it has no entry bar.
-use Rattle.std.specs.Prelude.{ℕ, ◌≡◌, refl, Bool, true, false, cond, List, T, Float}
+use Rattle.std.specs.Prelude.{ℕ, ◌≡◌, refl, Bool, true, false, cond, List, T, Float, None, Option, Some}
 use Rattle.words.specs.Prelude.{◌∙◌, binary64, fits, cond-fits, mul-fits}
 use Rattle.floats.specs.{Floats.◌⊗◌, Floats.◌⊘◌, Floats.◌≺◌, Floats.◌≼◌, Floats.min, Floats.eps, Floats.zero, Floats.one, Floor.two_to53}
 use Rattle.rows.specs.{History.History}
-use Rattle.rules.specs.{declared.position.Entered.TheVariants.Never, declared.position.Entered.TheVariants.Bar}
 use Rattle.portfolio.specs.{declared.Candle.Candle, declared.Portfolio.Portfolio, Portfolio.fresh, Portfolio.in_position}
 use Rattle.portfolio.specs.{Portfolio.funded, Portfolio.worsened, Portfolio.entered, Portfolio.exited}
-use Rattle.execution.specs.{declared.fills.Entry.Entry, declared.fills.Exit.Exit, declared.fills.Exit.TheVariants.NoExit}
-use Rattle.execution.specs.{declared.fills.Exit.TheVariants.Exited, declared.costs.Funding.Funding, declared.costs.Funding.TheVariants.NotSupplied}
-use Rattle.execution.specs.{declared.costs.Funding.TheVariants.Supplied, declared.optional.Optional.Optional, declared.lots.Quantity.Quantity}
+use Rattle.execution.specs.{declared.fills.Entry.Entry}
+use Rattle.execution.specs.{declared.costs.Funding.Funding}
+use Rattle.execution.specs.{declared.lots.Quantity.Quantity}
 use Rattle.execution.specs.{declared.level.Side.Side, declared.terms.Risk.Risk, declared.terms.Terms.Terms}
-use Rattle.execution.specs.{declared.intrabar.Trigger.Trigger, declared.intrabar.Trigger.TheVariants.Untouched, declared.intrabar.Trigger.TheVariants.At}
+use Rattle.execution.specs.{declared.intrabar.Trigger.Trigger}
 use Rattle.execution.specs.{Costs.slippage_rate, Costs.fill_price, Costs.closed, Costs.with_funding, Costs.charge_funding, Size.size, Size.capped_qty}
 use Rattle.execution.specs.{Lots.whole_lots, Lots.in_lots, Lots.size_in_lots, Lots.is_too_large, Lots.or_zero, Fills.direction, Fills.volatility_for, Fills.quantity}
 use Rattle.execution.specs.{Fills.probe_qty, Fills.within_volume, Fills.entry_with, Fills.execute_entry, Fills.execute_exit, Intrabar.closed_by}
@@ -25,24 +24,25 @@ use Rattle.trades.specs.{Times.directed}
 use Rattle.std.specs.Float.Ieee as Ieee
 use Rattle.std.specs.Float.Ieee.Fits.{div-fits}
 use Rattle.engine.specs.Account as Account
+use Rattle.portfolio.specs.{declared.Closed.Closed}
 
 -- In a position, entered at a bar; or nothing is held, and no bar was entered at.
 pub data OpenOrEmpty (p : Position) : Type 0 where
-  is_open : (bar : ℕ) → p.entered ≡ Bar bar → in_position p.portfolio ≡ true → OpenOrEmpty p
-  is_empty : p.portfolio.qty ≡ zero → p.entered ≡ Never → OpenOrEmpty p
+  is_open : (bar : ℕ) → p.entered ≡ Some bar → in_position p.portfolio ≡ true → OpenOrEmpty p
+  is_empty : p.portfolio.qty ≡ zero → p.entered ≡ None → OpenOrEmpty p
 
 -- ---- what an entry orders is a binary64: an operation gave it
 
-abbrev Sized64 : Optional → Type 0
-Sized64 Optional.Absent = Unit {0}
-Sized64 (Optional.Of q) = T (fits binary64 q)
+abbrev Sized64 : Option Float → Type 0
+Sized64 None = Unit {0}
+Sized64 (Some q) = T (fits binary64 q)
 
 abbrev Quantity64 : Quantity → Type 0
 Quantity64 Quantity.Nothing = Unit {0}
 Quantity64 Quantity.TooLarge = Unit {0}
 Quantity64 (Quantity.Of q) = T (fits binary64 q)
 
-sized_if : (b : Bool) (x : Optional) → Sized64 x → Sized64 (cond b Optional.Absent x)
+sized_if : (b : Bool) (x : Option Float) → Sized64 x → Sized64 (cond b None x)
 sized_if true x h = tt
 sized_if false x h = h
 
@@ -50,10 +50,10 @@ quantity_either : (b : Bool) (x y : Quantity) → Quantity64 x → Quantity64 y 
 quantity_either true x y h i = h
 quantity_either false x y h i = i
 
-ordered_64 : (wanted : Optional) (r : Risk) (equity price : Float) → Sized64 (capped_qty wanted r equity price)
+ordered_64 : (wanted : Option Float) (r : Risk) (equity price : Float) → Sized64 (capped_qty wanted r equity price)
 unfolding capped_qty
-ordered_64 Optional.Absent r equity price = tt
-ordered_64 (Optional.Of qty) r equity price = sized_if (qty ≼ zero) _ (div-fits binary64 _ price)
+ordered_64 None r equity price = tt
+ordered_64 (Some qty) r equity price = sized_if (qty ≼ zero) _ (div-fits binary64 _ price)
 
 lots_64 : (lot qty : Float) → T (fits binary64 qty) → Quantity64 (in_lots lot qty)
 unfolding in_lots whole_lots
@@ -62,12 +62,12 @@ lots_64 lot qty h =
     (quantity_either (two_to53 ≼ (qty ⊘ lot)) Quantity.TooLarge _ tt
     (quantity_either (one ≼ (qty ⊘ lot)) (Quantity.Of _) Quantity.Nothing (mul-fits binary64 _ lot) tt))
 
-size_64 : (lot : Float) (sized : Optional) → Sized64 sized → Quantity64 (size_in_lots lot sized)
+size_64 : (lot : Float) (sized : Option Float) → Sized64 sized → Quantity64 (size_in_lots lot sized)
 unfolding size_in_lots
-size_64 lot Optional.Absent h = tt
-size_64 lot (Optional.Of qty) h = lots_64 lot qty h
+size_64 lot None h = tt
+size_64 lot (Some qty) h = lots_64 lot qty h
 
-quantity_64 : (terms : Terms) (cash price : Float) (rv : Optional) → Quantity64 (quantity terms cash price rv)
+quantity_64 : (terms : Terms) (cash price : Float) (rv : Option Float) → Quantity64 (quantity terms cash price rv)
 unfolding quantity size
 quantity_64 terms cash price rv =
     size_64 terms.lot _ (sized_if (price ≼ zero) _ (sized_if (cash ≼ zero) _ (ordered_64 _ terms.risk cash price)))
@@ -106,7 +106,7 @@ booked_opens side (Quantity.Of base) fill bps k p h = opens_if (eps ≺ base) _ 
 entry_opens : (side : Side) (raw bps : Float) (terms : Terms) (k : Candle) (p : Portfolio) (h : History) → Opens (execute_entry side raw bps terms k p h)
 unfolding execute_entry
 entry_opens side raw bps terms k p h =
-    let rv : Optional = volatility_for terms.sizing h in
+    let rv : Option Float = volatility_for terms.sizing h in
     let probe : Quantity = probe_qty terms.slippage terms p.cash raw rv in
     let fill : Float = fill_price raw (direction side) (slippage_rate terms.slippage (or_zero probe) k.volume) in
     let sized : Quantity = quantity terms p.cash fill rv in
@@ -116,22 +116,22 @@ entry_opens side raw bps terms k p h =
 
 -- ---- an exit empties it
 
-abbrev Empties : Exit → Type 0
-Empties NoExit = Unit {0}
-Empties (Exited c) = c.portfolio.qty ≡ zero
+abbrev Empties : Option Closed → Type 0
+Empties None = Unit {0}
+Empties (Some c) = c.portfolio.qty ≡ zero
 
-empties_if : (b : Bool) (x : Exit) → Empties x → Empties (cond b x NoExit)
+empties_if : (b : Bool) (x : Option Closed) → Empties x → Empties (cond b x None)
 empties_if true x h = h
 empties_if false x h = tt
 
-closed_empties : (p : Portfolio) (price : Float) (time : ℕ) (bps : Float) (reason : ℕ) → Empties (Exited (closed p price time bps reason))
+closed_empties : (p : Portfolio) (price : Float) (time : ℕ) (bps : Float) (reason : ℕ) → Empties (Some (closed p price time bps reason))
 unfolding closed exited
 closed_empties p price time bps reason = refl
 
-trigger_empties : (t : Trigger) (k : Candle) (terms : Terms) (p : Portfolio) → Empties (closed_by t k terms p)
+trigger_empties : (t : Option Trigger) (k : Candle) (terms : Terms) (p : Portfolio) → Empties (closed_by t k terms p)
 unfolding closed_by
-trigger_empties Untouched k terms p = tt
-trigger_empties (At price reason) k terms p = closed_empties p price k.time terms.taker_bps reason
+trigger_empties None k terms p = tt
+trigger_empties (Some trigger) k terms p = closed_empties p trigger.price k.time terms.taker_bps trigger.reason
 
 exit_empties : (reason : ℕ) (raw : Float) (terms : Terms) (k : Candle) (p : Portfolio) → Empties (execute_exit reason raw terms k p)
 unfolding execute_exit
@@ -153,10 +153,10 @@ unfolding in_position
 kept p q same bar (is_open n e h) = is_open n (bar ∙ e) (rw same h)
 kept p q same bar (is_empty z e) = is_empty (same ∙ z) (bar ∙ e)
 
-left : (p : Position) (x : Exit) → Empties x → OpenOrEmpty p → OpenOrEmpty (leaving p x)
+left : (p : Position) (x : Option Closed) → Empties x → OpenOrEmpty p → OpenOrEmpty (leaving p x)
 unfolding leaving
-left p NoExit e h = h
-left p (Exited c) e h = is_empty e refl
+left p None e h = h
+left p (Some c) e h = is_empty e refl
 
 pub worsened_keeps : (p : Portfolio) (k : Candle) → (worsened p k).qty ≡ p.qty
 worsened_keeps p k = go (in_position p) refl
@@ -186,13 +186,13 @@ inside_keeps : (s : Settings) (p : Position) (k : Candle) → OpenOrEmpty p → 
 unfolding intrabar
 inside_keeps s p k h = left _ _ (stop_empties k s.terms _ _) (kept (facing p k) _ refl refl (faced p k h))
 
-pub charge_keeps : (on : Bool) (f : Funding) (p : Portfolio) → (charge_funding on f p).qty ≡ p.qty
+pub charge_keeps : (on : Bool) (f : Option Funding) (p : Portfolio) → (charge_funding on f p).qty ≡ p.qty
 unfolding charge_funding
 charge_keeps on f p = go on (in_position p) f
   where
-    go : (on b : Bool) (f : Funding) → (cond on (cond b (with_funding f p) p) p).qty ≡ p.qty
-    go true true NotSupplied = unfold with_funding in refl
-    go true true (Supplied mark rate) = unfold with_funding funded in refl
+    go : (on b : Bool) (f : Option Funding) → (cond on (cond b (with_funding f p) p) p).qty ≡ p.qty
+    go true true None = unfold with_funding in refl
+    go true true (Some funding) = unfold with_funding funded in refl
     go true false f = refl
     go false b f = refl
 

@@ -1,11 +1,10 @@
 -- Entry orders work only while flat. So a position that a bar finds keeps its entry bar through the bar's fill, and one that the fill opens has this bar's.
-use Rattle.std.specs.Prelude.{ℕ, ◌-◌, ◌≡◌, refl, Bool, true, false, cond, ltb, List, Float}
+use Rattle.std.specs.Prelude.{ℕ, ◌-◌, ◌≡◌, refl, Bool, true, false, cond, ltb, List, Float, None, Option, Some}
 use Rattle.words.specs.Prelude.{sym, ◌∙◌, false≢true, arith}
 use Rattle.rows.specs.{History.History}
-use Rattle.rules.specs.{declared.position.Entered.Entered as EntryBar, declared.position.Entered.TheVariants.Never, declared.position.Entered.TheVariants.Bar}
 use Rattle.portfolio.specs.{declared.Candle.Candle, declared.Portfolio.Portfolio, Portfolio.in_position, Portfolio.is_long, Portfolio.worsened}
-use Rattle.execution.specs.{declared.fills.Entry.Entry, declared.fills.Exit.Exit, declared.fills.Exit.TheVariants.NoExit}
-use Rattle.execution.specs.{declared.fills.Exit.TheVariants.Exited, declared.level.Side.Side, declared.level.OrderKind.OrderKind, Intrabar.apply_intrabar_exits}
+use Rattle.execution.specs.{declared.fills.Entry.Entry}
+use Rattle.execution.specs.{declared.level.Side.Side, declared.level.OrderKind.OrderKind, Intrabar.apply_intrabar_exits}
 use Rattle.execution.specs.{Level.entry_trigger}
 use Rattle.records.specs.{declared.settings.Settings.Settings, declared.state.Order.Order, declared.state.Order.TheVariants.Idle}
 use Rattle.records.specs.{declared.state.Order.TheVariants.EnterLong, declared.state.Order.TheVariants.EnterShort}
@@ -17,6 +16,7 @@ use Rattle.engine.specs.{Account.due_of, Account.done_of, Account.filled, Accoun
 use Rattle.engine.specs.{Decide.closing_order, Decide.ordered, Decide.order_after, Decide.decided, Laws.Runs.run_keeps, Run.run_over, Step.fill_of, Step.stepped}
 use Rattle.trades.specs.{NoDust.worsened_keeps, NoDust.charge_keeps}
 use Rattle.engine.specs.Account as Account
+use Rattle.portfolio.specs.{declared.Closed.Closed}
 
 unfoldable pub is_entry : Order → Bool
 is_entry Idle = false
@@ -135,10 +135,10 @@ only_flat s ls m bars =
 -- ---- the entry bar that a fill leaves
 
 -- that which the bar found; this bar's, where it found nothing held; or none, where an order left the position
-pub data LeftBy (t : State) (e : EntryBar) : Type 0 where
+pub data LeftBy (t : State) (e : Option ℕ) : Type 0 where
   kept : e ≡ t.position.entered → LeftBy t e
-  opened : in_position t.position.portfolio ≡ false → e ≡ Bar t.counts.bars_seen → LeftBy t e
-  emptied : e ≡ Never → LeftBy t e
+  opened : in_position t.position.portfolio ≡ false → e ≡ Some t.counts.bars_seen → LeftBy t e
+  emptied : e ≡ None → LeftBy t e
 
 entry_leaves : (t : State) (e : Entry) → in_position t.position.portfolio ≡ false → LeftBy t (entering t.position e t.counts.bars_seen).entered
 unfolding entering
@@ -146,10 +146,10 @@ entry_leaves t Entry.NoEntry f = kept refl
 entry_leaves t Entry.TooLarge f = kept refl
 entry_leaves t (Entry.Entered q fill) f = opened f refl
 
-exit_leaves : (t : State) (k : Candle) (x : Exit) → LeftBy t (leaving (facing t.position k) x).entered
+exit_leaves : (t : State) (k : Candle) (x : Option Closed) → LeftBy t (leaving (facing t.position k) x).entered
 unfolding leaving facing
-exit_leaves t k NoExit = kept refl
-exit_leaves t k (Exited c) = emptied refl
+exit_leaves t k None = kept refl
+exit_leaves t k (Some c) = emptied refl
 
 fill_leaves : (s : Settings) (t : State) (k : Candle) (h : History) → OnlyFlat t.order t.position
     → LeftBy t (filled s t.order t.position k h t.counts.bars_seen).position.entered

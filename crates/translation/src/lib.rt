@@ -12,8 +12,6 @@ ghost use Rattle.steps.specs.Translating.{translates, room_left};
 use rules::shapes;
 use rules::shapes::ConditionShape;
 use steps::decode;
-use steps::translated::Translated;
-use table::answer::Answer;
 use table::bytes::read64;
 use table::trees::{Tree, tree_number};
 use table::{header, kinds};
@@ -179,28 +177,25 @@ fn emit_each(
 }
 
 // Translates a tree of a table into its room. An absent tree needs no room and writes nothing.
-pub fn translate(t: &[u8], tree: Tree, room: &mut [u8]) -> Translated
+pub fn translate(t: &[u8], tree: Tree, room: &mut [u8]) -> Result<usize, Refusal>
     ensures value { result ≡ translates t.now tree room.old }
     ensures room_after { room.new ≡ room_left t.now tree room.old }
 {
     let checked = table::check(t);
     let answer = checked.answer;
     match answer {
-        Answer::Refused(refusal) => Translated::Refuses(refusal),
-        Answer::Accepted { nodes: _, rows: _ } => {
+        Err(refusal) => Err(refusal),
+        Ok(_) => {
             let x = tree_number(tree);
             let count = header::count(t, x);
             if room.len() < NODE_ROOM * count {
-                return Translated::Refuses(Refusal {
-                    number: 10,
-                    place: FIRST_ROOM + x as u64,
-                });
+                return Err(Refusal::Room(FIRST_ROOM + x as u64));
             }
             if count == 0 {
-                return Translated::Writes(0);
+                return Ok(0);
             }
             let ends = checked.ends;
-            Translated::Writes(emit_condition(t, &ends, header::root(t, x), 32, room, 0))
+            Ok(emit_condition(t, &ends, header::root(t, x), 32, room, 0))
         }
     }
 }

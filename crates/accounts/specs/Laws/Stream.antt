@@ -1,13 +1,13 @@
 -- The stream, bar after bar: the bars that are left after those taken, and what a bar that is taken has been seen to have.
-use Rattle.std.specs.Prelude.{ℕ, zero, suc, ◌+◌, ◌-◌, ◌*◌, ◌/◌, ◌<◌, ◌≤◌, ◌≡◌, refl, Bool, true, false, cond, List, [], ◌∷◌, eqb, length, take, drop}
+use Rattle.std.specs.Prelude.{ℕ, zero, suc, ◌+◌, ◌-◌, ◌*◌, ◌/◌, ◌<◌, ◌≤◌, ◌≡◌, refl, Bool, true, false, cond, List, [], ◌∷◌, eqb, length, take, drop, Err, Ok}
 use Rattle.words.specs.Prelude.{◌∙◌, arith, leb-true}
 use Rattle.words.specs.Prelude.{drop-drop}
 use Rattle.words.specs.{declared.refusal.Refusal.Refusal, Laws.Records.records_fit, Limits.bar_words, Limits.most_count, Limits.most_slots}
-use Rattle.refusals.specs.{declared.verdict.Verdict.Verdict, declared.verdict.Verdict.TheVariants.Fine, declared.verdict.Verdict.TheVariants.Bad}
 use Rattle.refusals.specs.{Laws.Lines.first_holds, Lines.judged}
 use Rattle.engine.specs.{Day.in_records, Laws.Days.records_next}
 use Rattle.accounts.specs.{declared.stream.StreamTaken.StreamTaken, Stream.stream_lines, Stream.stream_bar_lines, Stream.none_taken, Stream.one_more_taken}
 use Rattle.accounts.specs.{Stream.taken_unless, Stream.stream_takes, Stream.stream_taken}
+use Rattle.refusals.specs.{Lines.Verdict}
 
 -- the next record, and those after it
 pub next_record : (count w : ℕ) (ws : List ℕ) (done : ℕ) → done < count
@@ -43,7 +43,7 @@ module _ (S seen : ℕ) (bars : List ℕ) (count w : ℕ) where
       let none : (n : ℕ) → n + 0 ≡ n = λ n. omega arith in
       rw (all, start, here, none)
 
-  pub left_all : (done : ℕ) → count ≤ done → LeftAfter done → stream_takes S seen (in_records count w bars) ≡ record { done = done; verdict = Fine }
+  pub left_all : (done : ℕ) → count ≤ done → LeftAfter done → stream_takes S seen (in_records count w bars) ≡ record { done = done; verdict = Ok tt }
   unfolding in_records stream_takes
   left_all done h after =
       let none : count - done ≡ 0 = omega arith in
@@ -51,15 +51,15 @@ module _ (S seen : ℕ) (bars : List ℕ) (count w : ℕ) where
       after ∙ rw (none, zero_more)
 
   module _ (done : ℕ) (more : done < count) (after : LeftAfter done) where
-    pub left_more : judged (stream_bar_lines S (seen + done) (record_at w bars done)) ≡ Fine → LeftAfter (done + 1)
+    pub left_more : judged (stream_bar_lines S (seen + done) (record_at w bars done)) ≡ Ok tt → LeftAfter (done + 1)
     unfolding stream_takes taken_unless
     left_more fine =
         let one : (n : ℕ) → n + 1 + done ≡ n + (done + 1) = λ n. omega arith in
         let on : seen + done + 1 ≡ seen + (done + 1) = omega arith in
         after ∙ rw (next_record count w bars done more, ← same_record w bars done, fine, one, on)
 
-    pub left_stops : (why : Refusal) → judged (stream_bar_lines S (seen + done) (record_at w bars done)) ≡ Bad why
-        → stream_takes S seen (in_records count w bars) ≡ record { done = done; verdict = Bad why }
+    pub left_stops : (why : Refusal) → judged (stream_bar_lines S (seen + done) (record_at w bars done)) ≡ Err why
+        → stream_takes S seen (in_records count w bars) ≡ record { done = done; verdict = Err why }
     unfolding stream_takes taken_unless
     left_stops why bad =
         let zero_more : 0 + done ≡ done = omega arith in
@@ -68,7 +68,7 @@ module _ (S seen : ℕ) (bars : List ℕ) (count w : ℕ) where
 -- ---- what was taken lies within the list
 
 -- a stream whose lines are fine
-pub stream_fine : (S seen : ℕ) (bars : List ℕ) → judged (stream_lines S seen bars) ≡ Fine → (S ≤ most_slots) × (seen ≤ most_count)
+pub stream_fine : (S seen : ℕ) (bars : List ℕ) → judged (stream_lines S seen bars) ≡ Ok tt → (S ≤ most_slots) × (seen ≤ most_count)
 unfolding stream_lines
 stream_fine S seen bars h =
     let slots = first_holds _ _ h in
@@ -92,8 +92,8 @@ takes_few S (bar ∷ bars) seen = go (judged (stream_bar_lines S seen bar)) (tak
   where
     go : (v : Verdict) → (stream_takes S (seen + 1) bars).done ≤ length bars
         → (taken_unless v (one_more_taken (stream_takes S (seen + 1) bars))).done ≤ length (bar ∷ bars)
-    go (Bad why) h = omega arith
-    go Fine h = omega arith
+    go (Err why) h = omega arith
+    go (Ok tt) h = omega arith
 
 -- the first `count` bars of S slots stand in the list; where there is one, the stream's slots and its bars are within their limits
 pub record Within (S seen : ℕ) (bars : List ℕ) (count : ℕ) : Type 0 where
@@ -117,8 +117,8 @@ taken_within S seen bars = go (eqb (length bars) 0) (judged (stream_lines S seen
     some = in_records (length bars / bar_words S) (bar_words S) bars
 
     goes : (v : Verdict) → judged (stream_lines S seen bars) ≡ v → Within S seen bars (taken_unless v (stream_takes S seen some)).done
-    goes (Bad why) e = none_within S seen bars
-    goes Fine e =
+    goes (Err why) e = none_within S seen bars
+    goes (Ok tt) e =
         let few : (stream_takes S seen some).done ≤ length bars / bar_words S =
         rw (records_length (length bars / bar_words S) (bar_words S) bars) at (takes_few S some seen) in
         record {
@@ -128,6 +128,6 @@ taken_within S seen bars = go (eqb (length bars) 0) (judged (stream_lines S seen
         }
 
     go : (b : Bool) (v : Verdict) → judged (stream_lines S seen bars) ≡ v
-        → Within S seen bars (cond b (none_taken Fine) (taken_unless v (stream_takes S seen some))).done
+        → Within S seen bars (cond b (none_taken (Ok tt)) (taken_unless v (stream_takes S seen some))).done
     go true v e = none_within S seen bars
     go false v e = goes v e

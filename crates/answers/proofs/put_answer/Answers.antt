@@ -3,18 +3,18 @@ use Rattle.words.specs.Prelude.{sym, ◌∙◌, ap, List, ℕ}
 use Rattle.answers.specs.{Text.put, Text.next, Lines.line_of}
 use Rattle.answers.proofs.put_answer.Goals as goal
 
-pub returns-in-Accepted : goal.returns-in-Accepted
+pub returns-in-Ok : goal.returns-in-Ok
 unfolding line_of
-returns-in-Accepted c =
+returns-in-Ok c =
     let r = c.put_numbers in
     let room = c.args.room.now in
-    let e = sym (ap line_of c.in-Accepted.is) in
+    let e = sym (ap line_of c.in-Ok.is) in
     record { value = r.ensures.value ∙ ap (λ (l : List ℕ). next room 0 l) e; room_after = r.ensures.room_after ∙ ap (λ (l : List ℕ). put room 0 l) e; prefix_len = r.ensures.prefix_len }
 
-pub returns-in-Refused : goal.returns-in-Refused
+pub returns-in-Err : goal.returns-in-Err
 unfolding line_of
-returns-in-Refused c =
-    let r = c.put_numbers-in-Refused in
+returns-in-Err c =
+    let r = c.put_numbers-in-Err in
     let room = c.args.room.now in
-    let e = sym (ap line_of c.in-Refused.is) in
+    let e = sym (ap line_of c.in-Err.is) in
     record { value = r.ensures.value ∙ ap (λ (l : List ℕ). next room 0 l) e; room_after = r.ensures.room_after ∙ ap (λ (l : List ℕ). put room 0 l) e; prefix_len = r.ensures.prefix_len }

@@ -1,11 +1,11 @@
 -- A close is taken exactly where both rooms have a place for it and it is finite. Assumes nothing.
-use Rattle.std.specs.Prelude.{ℕ, ◌+◌, ◌*◌, ◌/◌, ◌<◌, ◌≤◌, ◌≡◌, refl, Bool, true, false, cond, ◌&&◌, List, ltb, Float, length}
+use Rattle.std.specs.Prelude.{ℕ, ◌+◌, ◌*◌, ◌/◌, ◌<◌, ◌≤◌, ◌≡◌, refl, Bool, true, false, cond, ◌&&◌, List, ltb, Float, length, Err, Ok, Result}
 use Rattle.words.specs.Prelude.{is_nan}
 use Rattle.words.specs.Prelude.{sym, ap, ◌∙◌, false≢true, arith, ltb-true, leb-true}
 use Rattle.words.specs.Prelude.{lt-ltb, le-leb, nan, inf, fin}
 use Rattle.words.specs.{Limits.most_count, declared.refusal.Refusal.Refusal}
 use Rattle.floats.specs.{Floats.float_of, Floats.finite}
-use Rattle.blocks.specs.{declared.append.Added.Added, declared.append.Added.TheVariants.Held, declared.append.Added.TheVariants.Refused, Reading.Number}
+use Rattle.blocks.specs.{Reading.Number}
 use Rattle.blocks.specs.{Blocks.block_bars, Blocks.block_words, Append.Append, Append.appended, Append.kept, Append.unchanged, Append.place_for_block}
 
 -- what an append that is not refused has
@@ -15,13 +15,13 @@ pub record Appendable (held close : ℕ) (closes blocks : List ℕ) : Type 0 whe
   pub place : block_words * (held / block_bars) + block_words ≤ length blocks
   pub number : finite (float_of close) ≡ true
 
-not_held : {A : Type 0} {r : Refusal} {n : ℕ} → Refused r ≡ Held n → A
+not_held : {A : Type 0} {r : Refusal} {n : ℕ} → Err r ≡ Ok n → A
 not_held e = absurd (let z : ◌≡◌ {A = ℕ} 0 1 = cc in omega arith)
 
 -- the tests, one by one
 all_pass : (p q r s : Bool) (k : Append) (a b c : Refusal) (closes blocks : List ℕ) {n : ℕ}
-    → (cond (p && q) (cond r (cond s k (unchanged (Refused a) closes blocks)) (unchanged (Refused b) closes blocks)) (unchanged (Refused c) closes blocks)
-    ).answer ≡ Held n
+    → (cond (p && q) (cond r (cond s k (unchanged (Err a) closes blocks)) (unchanged (Err b) closes blocks)) (unchanged (Err c) closes blocks)
+    ).answer ≡ Ok n
     → (p ≡ true) × (q ≡ true) × (r ≡ true) × (s ≡ true)
 all_pass true true true true k a b c closes blocks e = (refl, refl, refl, refl)
 all_pass true true true false k a b c closes blocks e = not_held e
@@ -30,7 +30,7 @@ all_pass true false r s k a b c closes blocks e = not_held e
 all_pass false q r s k a b c closes blocks e = not_held e
 
 module _ (held close : ℕ) (closes blocks : List ℕ) where
-  pub appended_has : {n : ℕ} → (appended held close closes blocks).answer ≡ Held n → Appendable held close closes blocks
+  pub appended_has : {n : ℕ} → (appended held close closes blocks).answer ≡ Ok n → Appendable held close closes blocks
   unfolding appended
   appended_has e =
       let t = all_pass (ltb held (length closes)) (ltb held most_count) (place_for_block held blocks) (finite (float_of close)) (kept held close closes blocks)
@@ -58,21 +58,21 @@ pub finite_number : (w : ℕ) → finite (float_of w) ≡ true → Number w
 finite_number w e = finite_is (float_of w) e
 
 -- what is refused keeps both rooms
-not_refused : {A : Type 0} {r : Refusal} {n : ℕ} → Held n ≡ Refused r → A
+not_refused : {A : Type 0} {r : Refusal} {n : ℕ} → Ok n ≡ Err r → A
 not_refused e = absurd (let z : ◌≡◌ {A = ℕ} 0 1 = cc in omega arith)
 
-keeps : (p q r s : Bool) (k : Append) (n : ℕ) → k.answer ≡ Held n → (a b c why : Refusal) (closes blocks : List ℕ) →
-    (let all = cond (p && q) (cond r (cond s k (unchanged (Refused a) closes blocks)) (unchanged (Refused b) closes blocks))
-    (unchanged (Refused c) closes blocks) in
-    all.answer ≡ Refused why → all ≡ unchanged (Refused why) closes blocks)
+keeps : (p q r s : Bool) (k : Append) (n : ℕ) → k.answer ≡ Ok n → (a b c why : Refusal) (closes blocks : List ℕ) →
+    (let all = cond (p && q) (cond r (cond s k (unchanged (Err a) closes blocks)) (unchanged (Err b) closes blocks))
+    (unchanged (Err c) closes blocks) in
+    all.answer ≡ Err why → all ≡ unchanged (Err why) closes blocks)
 keeps true true true true k n t a b c why closes blocks e = not_refused (sym t ∙ e)
-keeps true true true false k n t a b c why closes blocks e = ap (λ (x : Added). unchanged x closes blocks) e
-keeps true true false s k n t a b c why closes blocks e = ap (λ (x : Added). unchanged x closes blocks) e
-keeps true false r s k n t a b c why closes blocks e = ap (λ (x : Added). unchanged x closes blocks) e
-keeps false q r s k n t a b c why closes blocks e = ap (λ (x : Added). unchanged x closes blocks) e
+keeps true true true false k n t a b c why closes blocks e = ap (λ (x : Result ℕ Refusal). unchanged x closes blocks) e
+keeps true true false s k n t a b c why closes blocks e = ap (λ (x : Result ℕ Refusal). unchanged x closes blocks) e
+keeps true false r s k n t a b c why closes blocks e = ap (λ (x : Result ℕ Refusal). unchanged x closes blocks) e
+keeps false q r s k n t a b c why closes blocks e = ap (λ (x : Result ℕ Refusal). unchanged x closes blocks) e
 
-pub refusal_keeps : (held close : ℕ) (closes blocks : List ℕ) (why : Refusal) → (appended held close closes blocks).answer ≡ Refused why
-    → appended held close closes blocks ≡ unchanged (Refused why) closes blocks
+pub refusal_keeps : (held close : ℕ) (closes blocks : List ℕ) (why : Refusal) → (appended held close closes blocks).answer ≡ Err why
+    → appended held close closes blocks ≡ unchanged (Err why) closes blocks
 unfolding appended
 refusal_keeps held close closes blocks why e =
     keeps (ltb held (length closes)) (ltb held most_count) (place_for_block held blocks) (finite (float_of close)) (kept held close closes blocks) (held + 1) refl

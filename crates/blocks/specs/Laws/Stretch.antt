@@ -1,9 +1,9 @@
 -- What a question that is not refused may rely on, and where none is refused. Assumes nothing.
-use Rattle.std.specs.Prelude.{ℕ, ◌+◌, ◌-◌, ◌*◌, ◌/◌, ◌<◌, ◌≤◌, ◌≡◌, refl, Bool, true, false, ◌&&◌, List, ltb, leb, length}
+use Rattle.std.specs.Prelude.{ℕ, ◌+◌, ◌-◌, ◌*◌, ◌/◌, ◌<◌, ◌≤◌, ◌≡◌, refl, Bool, true, false, ◌&&◌, List, ltb, leb, length, Ok}
 use Rattle.words.specs.Prelude.{false≢true, leb-true, ltb-true, le-leb, lt-ltb}
 use Rattle.words.specs.Prelude.{arith}
 use Rattle.words.specs.{Limits.most_count}
-use Rattle.blocks.specs.{declared.stretch.Found.TheVariants.Best, Reads.reads, Reads.told, Stretch.holds, Stretch.exists, Stretch.stretched}
+use Rattle.blocks.specs.{Reads.reads, Reads.told, Stretch.holds, Stretch.exists, Stretch.stretched}
 
 -- three tests that all hold
 all_three : (x y z : Bool) → x && (y && z) ≡ true → (x ≡ true) × (y ≡ true) × (z ≡ true)
@@ -29,7 +29,7 @@ module _ (held first last : ℕ) (e : exists held first last ≡ true) where
 -- rooms that hold their bars answer a question over some of them
 pub answers : (held first last : ℕ) (closes blocks : List ℕ) → held ≤ most_count → held ≤ length closes
     → 4 * ((held + 64 - 1) / 64) ≤ length blocks → first ≤ last → last < held
-    → stretched held first last closes blocks ≡ Best (told closes blocks (reads first (last + 1 - first)))
+    → stretched held first last closes blocks ≡ Ok (told closes blocks (reads first (last + 1 - first)))
 unfolding stretched
 answers held first last closes blocks p q r h l =
     let begins : first < held = omega arith in

@@ -1,16 +1,14 @@
 -- A box that is begun by calls is one from a table, and has the words of a fresh state.
-use Rattle.std.specs.Prelude.{ℕ, ◌*◌, ◌≤◌, ◌≡◌, refl, false, List, leb, length}
+use Rattle.std.specs.Prelude.{ℕ, ◌*◌, ◌≤◌, ◌≡◌, refl, false, List, leb, length, Err, Ok, Result}
 use Rattle.words.specs.Prelude.{sym, ap, ◌∙◌}
 use Rattle.words.specs.{Limits.setting_words, Limits.state_words, Limits.trees, Outcome.gives, Words.overwrite}
 use Rattle.table.specs.{declared.trees.Tree.Tree, declared.trees.Tree.TheVariants.Entry, declared.trees.Tree.TheVariants.Exit}
 use Rattle.table.specs.{declared.trees.Tree.TheVariants.ShortEntry, declared.trees.Tree.TheVariants.ShortExit, Checked.checked, Header.tree_number}
-use Rattle.needed.specs.{declared.depth.DepthAnswer.DepthAnswer, declared.depth.DepthAnswer.TheVariants.Needs}
-use Rattle.needed.specs.{declared.depth.DepthAnswer.TheVariants.Refuses as DepthRefuses, Depth.depth_answer}
-use Rattle.steps.specs.{declared.translated.Translated.Translated, declared.translated.Translated.TheVariants.Writes}
-use Rattle.steps.specs.{declared.translated.Translated.TheVariants.Refuses, Bytes.bytes_of, Demand.deep, Demand.written_there, Translating.steps_of}
+use Rattle.needed.specs.{Depth.depth_answer}
+use Rattle.steps.specs.{Bytes.bytes_of, Demand.deep, Demand.written_there, Translating.steps_of}
 use Rattle.steps.specs.{Translating.translates, Translating.room_left}
 use Rattle.records.specs.{Lent.Lists, Settings.settings_of, State.fresh_state, StateWords.words_of}
-use Rattle.refusals.specs.{declared.verdict.Verdict.TheVariants.Fine, Lines.judged}
+use Rattle.refusals.specs.{Lines.judged}
 use Rattle.engine.specs.{Rules.lists_of, Rules.FromTable}
 use Rattle.runs.specs.{Laws.Meaning.from_depth}
 use Rattle.replies.specs.{Call.call_of, Call.unless_bad, Call.word_lines}
@@ -19,33 +17,36 @@ use Rattle.capi.specs.{DayJoined.words_had, Fresh.fresh_call, Joined.words_fine,
 use Rattle.capi.specs.{Laws.TableCalls.translate_honest, Tables.numbered_tree, Tables.DepthLent, Tables.depth_gives, Tables.depth_call, Tables.TranslateLent}
 use Rattle.capi.specs.{Tables.translate_gives, Tables.translate_outcome, Tables.translate_call}
 use Rattle.capacitor.specs.{Begun.Translation, Begun.Begun, Laws.Answered.refuses_not, Laws.Answered.gives_same, Laws.Answered.unless_gives}
+use Rattle.words.specs.{declared.refusal.Refusal.Refusal}
+use Rattle.needed.specs.{Outcome.needs}
+use Rattle.needed.specs.{declared.depth.Needs.Needs}
 
 -- ---- the table
 
 -- a depth that is given is answered
-record Asked (a : DepthAnswer) (rows : ℕ) : Type 0 where
+record Asked (a : Result Needs Refusal) (rows : ℕ) : Type 0 where
   row : ℕ
   window : ℕ
-  is : a ≡ Needs rows row window
+  is : a ≡ needs rows row window
 
-depth_given : (a : DepthAnswer) (after : DepthLent) → depth_gives a ≡ gives after → Asked a after.rows
+depth_given : (a : Result Needs Refusal) (after : DepthLent) → depth_gives a ≡ gives after → Asked a after.rows
 unfolding depth_gives
-depth_given (DepthRefuses why) after e = refuses_not e
-depth_given (Needs rows row window) after e =
-    let same : rows ≡ after.rows = ap (λ (l : DepthLent). l.rows) (gives_same e) in
-    record { row = row; window = window; is = rw same }
+depth_given (Err why) after e = refuses_not e
+depth_given (Ok needs) after e =
+    let same : needs.rows ≡ after.rows = ap (λ (l : DepthLent). l.rows) (gives_same e) in
+    record { needs.row = needs.row; needs.window = needs.window; is = rw same }
 
 -- so are steps
-record Wrote (w : Translated) (left : List ℕ) (after : TranslateLent) : Type 0 where
+record Wrote (w : Result ℕ Refusal) (left : List ℕ) (after : TranslateLent) : Type 0 where
   count : ℕ
-  is : w ≡ Writes count
+  is : w ≡ Ok count
   used : after.used ≡ 16 * count
   room : after.room ≡ left
 
-steps_given : (w : Translated) (room : List ℕ) (after : TranslateLent) → translate_gives w room ≡ gives after → Wrote w room after
+steps_given : (w : Result ℕ Refusal) (room : List ℕ) (after : TranslateLent) → translate_gives w room ≡ gives after → Wrote w room after
 unfolding translate_gives
-steps_given (Refuses why) room after e = refuses_not e
-steps_given (Writes count) room after e =
+steps_given (Err why) room after e = refuses_not e
+steps_given (Ok count) room after e =
     let same = gives_same e in
     record {
       count = count;
@@ -96,7 +97,7 @@ module _ (table settings : List ℕ) (ls : Lists) (box : StepLent) (begun : Begu
       rw same
       (from_depth table d.nodes d.rows d.accepted b.bytes (settings_of settings) b.slots b.lookback (rw (← d.is) b.depth))
 
-  begun_words : (judged (word_lines settings begun.room) ≡ Fine)
+  begun_words : (judged (word_lines settings begun.room) ≡ Ok tt)
       × (overwrite begun.room 0 (words_of (fresh_state (settings_of settings))) ≡ box.state)
   begun_words =
       let given = unless_gives _ _ _ ((fresh_honest settings begun.room).does begun.fresh) in

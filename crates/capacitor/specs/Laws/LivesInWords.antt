@@ -1,10 +1,9 @@
 -- Losses, in the words of the C calls, are lives of the engine's box, restored from whole images.
-use Rattle.std.specs.Prelude.{ℕ, ◌≤◌, ◌≡◌, refl, List, [], ◌∷◌, ◌++◌, length, take}
+use Rattle.std.specs.Prelude.{ℕ, ◌≤◌, ◌≡◌, refl, List, [], ◌∷◌, ◌++◌, length, take, Ok}
 use Rattle.words.specs.Prelude.{sym, ap, subst, ◌∙◌, arith}
 use Rattle.words.specs.{Limits.setting_words, Limits.state_words}
 use Rattle.records.specs.{declared.settings.Settings.Settings, declared.state.State.State, Lent.Lists, Lent.Rooms, Settings.settings_of, Laws.RoundTrip.Floats64}
 use Rattle.records.specs.{Laws.RoundTrip.state_kept, Laws.RoundTrip.words_floats}
-use Rattle.refusals.specs.{declared.verdict.Verdict.TheVariants.Fine}
 use Rattle.engine.specs.{Books.held_points, Books.held_trades, Run.Run, Run.run_over}
 use Rattle.runs.specs.{Laws.Floats.run_floats}
 use Rattle.images.specs.{Layout.image_of, Reading.state_in, Refused.restore_judged, Laws.Fine.restore_fine}
@@ -42,7 +41,7 @@ module _ (settings room : List ℕ) (ls : Lists) (set : setting_words ≤ length
   floats = run_floats s ls l.bars t m h
 
   -- what it took, and what its books held
-  pub bars_taken : (calls_over settings ls (lent_with room t m) l.bars).answer ≡ 0 → r.verdict ≡ Fine
+  pub bars_taken : (calls_over settings ls (lent_with room t m) l.bars).answer ≡ 0 → r.verdict ≡ Ok tt
   bars_taken zero = all_taken s ls l.bars t m (ap (λ (w : WordRun). w.answer) (sym (calls_run settings room set long ls l.bars t m h)) ∙ zero)
 
   pub points_are : points_in (box_before settings ls (lent_with room t m) l) ≡ held_points r.state r.rooms
@@ -71,7 +70,7 @@ module _ (settings room : List ℕ) (ls : Lists) (set : setting_words ≤ length
         let plan : Plan x l.area l.before l.last = subst (λ (y : List ℕ). Plan y l.area l.before l.last) i.0 d.plan in
         let cut : CutIn x (in_order l.before l.last) l.area l.found =
         subst (λ (y : List ℕ). CutIn y (in_order l.before l.last) l.area l.found) i.0 d.cut in
-        let accepted : restore_judged s (take (length x) l.found) l.rows ≡ Fine = rw i.1 done.accepted in
+        let accepted : restore_judged s (take (length x) l.found) l.rows ≡ (Ok tt) = rw i.1 done.accepted in
         let whole = plan_accepted s r.state r.rooms.rows l.rows l.before l.last l.area l.found (omega (arith, i.1, d.fits))
         d.unmarked plan cut accepted in
         record {

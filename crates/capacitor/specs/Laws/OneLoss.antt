@@ -1,10 +1,10 @@
 -- One loss: what the restore after it answers.
-use Rattle.std.specs.Prelude.{ℕ, ◌*◌, ◌^◌, ◌≤◌, ◌≡◌, refl, List, [], ◌∷◌, ◌++◌, length, take}
+use Rattle.std.specs.Prelude.{ℕ, ◌*◌, ◌^◌, ◌≤◌, ◌≡◌, refl, List, [], ◌∷◌, ◌++◌, length, take, Err, Ok}
 use Rattle.words.specs.Prelude.{subst, ◌∙◌, arith, le-leb}
-use Rattle.words.specs.{Limits.setting_words, Limits.state_words, Outcome.refusal}
+use Rattle.words.specs.{Limits.setting_words, Limits.state_words}
 use Rattle.records.specs.{declared.settings.Settings.Settings, declared.state.State.State, Lent.Lists, Lent.Rooms, Lent.row_places, Settings.settings_of}
 use Rattle.records.specs.{Laws.RoundTrip.Floats64}
-use Rattle.refusals.specs.{declared.verdict.Verdict.TheVariants.Fine, declared.verdict.Verdict.TheVariants.Bad, Lines.judged, Rooms.room_lines}
+use Rattle.refusals.specs.{Lines.judged, Rooms.room_lines}
 use Rattle.refusals.specs.{Settings.setting_lines}
 use Rattle.engine.specs.{Run.Run, Run.run_over}
 use Rattle.images.specs.{Layout.image_of, Refused.restore_judged}
@@ -14,6 +14,7 @@ use Rattle.replies.specs.{Call.answer_word}
 use Rattle.stepping.specs.{Bars.StepLent, WordRun.answer_of, WordRun.lent_with}
 use Rattle.capacitor.specs.{Capacitor.AfterLoss, Capacitor.goes_on, Capacitor.refused19, Capacitor.refused20, Loss.Loss, Loss.size_of, Loss.restore_of}
 use Rattle.capacitor.specs.{Loss.box_after, Loss.Driven, Loss.Restored, Loss.last_box, Laws.LivesInWords.image_is, Laws.PowerCalls.restore_answers}
+use Rattle.words.specs.declared.refusal.Refusal.TheVariants as Refusal
 
 -- one loss more
 pub restored_more : (settings : List ℕ) (ls : Lists) (losses : List Loss) (box : StepLent) (l : Loss) → Restored settings ls box losses
@@ -22,21 +23,21 @@ unfolding Restored last_box
 restored_more settings ls [] box l all d zero = (d, zero, tt)
 restored_more settings ls (k ∷ losses) box l all d zero = (all.0, all.1, restored_more settings ls losses (box_after settings k) l all.2 d zero)
 
-nineteen_word : answer_of (Bad (refusal 19 0)) ≡ 19 * 2 ^ 32
+nineteen_word : answer_of (Err Refusal.Image) ≡ 19 * 2 ^ 32
 unfolding answer_of answer_word
 nineteen_word = refl
 
-twenty_word : answer_of (Bad (refusal 20 0)) ≡ 20 * 2 ^ 32
+twenty_word : answer_of (Err Refusal.Other) ≡ 20 * 2 ^ 32
 unfolding answer_of answer_word
 twenty_word = refl
 
-fine_word : answer_of Fine ≡ 0
+fine_word : answer_of (Ok tt) ≡ 0
 unfolding answer_of
 fine_word = refl
 
 -- a loss of the box (t, m), the words of whose state stand in `room`, where what it has come to is ready
 module _ (settings room : List ℕ) (ls : Lists) (set : setting_words ≤ length settings) (long : state_words ≤ length room) (t : State) (h : Floats64 t) (m : Rooms)
-    (twelve : judged (setting_lines (settings_of settings)) ≡ Fine) (l : Loss)
+    (twelve : judged (setting_lines (settings_of settings)) ≡ Ok tt) (l : Loss)
     (ready : Restorable (settings_of settings) (run_over (settings_of settings) ls t m l.bars))
     (state : state_words ≤ length l.state) (place : (settings_of settings).depth ≤ row_places (settings_of settings).slots l.rows) where
   abbrev s : Settings
@@ -48,7 +49,7 @@ module _ (settings room : List ℕ) (ls : Lists) (set : setting_words ≤ length
   abbrev image : List ℕ
   image = image_of s r.state r.rooms.rows
 
-  ten : judged (room_lines s l.rows) ≡ Fine
+  ten : judged (room_lines s l.rows) ≡ Ok tt
   unfolding room_lines judged
   ten = rw (le-leb s.depth (row_places s.slots l.rows) place)
 

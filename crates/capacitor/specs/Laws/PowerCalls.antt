@@ -1,11 +1,10 @@
 -- `ysh_step`, `ysh_dump` and `ysh_restore` on the words of a state: what an answer of 0 tells of the engine, and what the engine's verdict makes the answer.
-use Rattle.std.specs.Prelude.{ℕ, ◌≤◌, ◌/◌, ◌^◌, ◌≡◌, refl, List, length, take}
+use Rattle.std.specs.Prelude.{ℕ, ◌≤◌, ◌/◌, ◌^◌, ◌≡◌, refl, List, length, take, Err, Ok}
 use Rattle.words.specs.Prelude.{sym, ap, ◌∙◌, arith}
 use Rattle.words.specs.{Limits.setting_words, Limits.state_words, declared.refusal.Refusal.Refusal, Outcome.gives, Words.overwrite}
 use Rattle.words.specs.{Laws.Overwrite.overwrite-length}
 use Rattle.records.specs.{declared.settings.Settings.Settings, declared.state.State.State, Lent.Lists, Lent.Rooms, Settings.settings_of, StateWords.state_of}
 use Rattle.records.specs.{StateWords.words_of, Laws.RoundTrip.Floats64, Laws.RoundTrip.state_kept}
-use Rattle.refusals.specs.{declared.verdict.Verdict.Verdict, declared.verdict.Verdict.TheVariants.Fine, declared.verdict.Verdict.TheVariants.Bad}
 use Rattle.refusals.specs.{Lines.judged, Rooms.room_lines, Laws.Lines.never, Laws.Lines.both_fine}
 use Rattle.engine.specs.{Boxes.NotFull, Laws.Runs.run_ends, Run.run_over}
 use Rattle.images.specs.{Layout.dump_bytes, Layout.image_of, Reading.state_in, Reading.window_in, Refused.restore_judged, Refused.left_by, Restoring.restored_by}
@@ -17,23 +16,24 @@ use Rattle.stepping.specs.{Bars.lent_lines, WordRun.answer_of}
 use Rattle.capi.specs.{DayJoined.lent_had, Joined.lent_fine, Power.RestoreLent, Power.dump_gives, Power.dump_call, Power.restore_gives, Power.restore_call}
 use Rattle.capi.specs.{Laws.Calls.FitsAnswer, Laws.Calls.refused_word, Laws.DumpCalls.dump_honest, Laws.DumpCalls.restore_honest, Laws.RunCalls.step_small}
 use Rattle.capacitor.specs.{Laws.Answered.refuses_not, Laws.Answered.gives_same, Laws.Answered.unless_gives}
+use Rattle.refusals.specs.{Lines.Verdict}
 
 -- ---- bars
 
 module _ (s : Settings) (ls : Lists) (bars : List (List ℕ)) (t : State) (m : Rooms) where
   -- what ends a run can stand in an answer
-  run_small : (r : Refusal) → (run_over s ls t m bars).verdict ≡ Bad r → FitsAnswer r
+  run_small : (r : Refusal) → (run_over s ls t m bars).verdict ≡ Err r → FitsAnswer r
   run_small =
-      run_ends s ls (λ t m. Unit {0}) (λ t m bar fine u. tt) (λ v. (r : Refusal) → v ≡ Bad r → FitsAnswer r) (λ r e. never (sym e))
+      run_ends s ls (λ t m. Unit {0}) (λ t m bar fine u. tt) (λ v. (r : Refusal) → v ≡ Err r → FitsAnswer r) (λ r e. never (sym e))
       (λ t m bar u r e. step_small s t bar m ls r e) bars t m tt
 
   -- an answer of 0: all bars were taken
-  pub all_taken : answer_of (run_over s ls t m bars).verdict ≡ 0 → (run_over s ls t m bars).verdict ≡ Fine
+  pub all_taken : answer_of (run_over s ls t m bars).verdict ≡ 0 → (run_over s ls t m bars).verdict ≡ Ok tt
   all_taken zero = go (run_over s ls t m bars).verdict refl zero
     where
-      go : (v : Verdict) → (run_over s ls t m bars).verdict ≡ v → answer_of v ≡ 0 → v ≡ Fine
-      go Fine e z = refl
-      go (Bad r) e z = absurd (refused_word r (run_small r e) (unfold answer_of in z))
+      go : (v : Verdict) → (run_over s ls t m bars).verdict ≡ v → answer_of v ≡ 0 → v ≡ Ok tt
+      go (Ok tt) e z = refl
+      go (Err r) e z = absurd (refused_word r (run_small r e) (unfold answer_of in z))
 
   -- an answer with another number than 14: no room was full
   pub not_full : (answer_of (run_over s ls t m bars).verdict / 2 ^ 32 ≡ 14 → ⊥) → NotFull (run_over s ls t m bars).verdict
@@ -44,19 +44,19 @@ module _ (s : Settings) (ls : Lists) (bars : List (List ℕ)) (t : State) (m : R
 
 -- ---- the dump
 
-dump_given : (v : Verdict) (image after : List ℕ) → dump_gives v image ≡ gives after → (v ≡ Fine) × (image ≡ after)
+dump_given : (v : Verdict) (image after : List ℕ) → dump_gives v image ≡ gives after → (v ≡ Ok tt) × (image ≡ after)
 unfolding dump_gives
-dump_given Fine image after e = (refl, gives_same e)
-dump_given (Bad why) image after e = refuses_not e
+dump_given (Ok tt) image after e = (refl, gives_same e)
+dump_given (Err why) image after e = refuses_not e
 
-dump_room : (s : Settings) (t : State) (rows buffer : List ℕ) → dump_judged s t rows buffer ≡ Fine → judged (room_lines s rows) ≡ Fine
+dump_room : (s : Settings) (t : State) (rows buffer : List ℕ) → dump_judged s t rows buffer ≡ Ok tt → judged (room_lines s rows) ≡ Ok tt
 unfolding dump_judged dump_lines
 dump_room s t rows buffer fine = (both_fine (room_lines s rows) _ fine).0
 
 -- an answer of 0, on any words: nothing was refused, and the buffer begins with the image
 pub record DumpDone (settings state rows buffer : List ℕ) : Type 0 where
-  pub lines : judged (lent_lines settings state rows) ≡ Fine
-  pub fine : dump_judged (settings_of settings) (state_of state) rows buffer ≡ Fine
+  pub lines : judged (lent_lines settings state rows) ≡ Ok tt
+  pub fine : dump_judged (settings_of settings) (state_of state) rows buffer ≡ Ok tt
   pub image : let size = dump_bytes (settings_of settings).slots (settings_of settings).depth in
       take size (dump_call settings state rows buffer 0 size).lent ≡ image_of (settings_of settings) (state_of state) rows
 
@@ -88,7 +88,7 @@ module _ (settings room : List ℕ) (set : setting_words ≤ length settings) (l
 
   -- an answer of 0: the dump was not refused, and the buffer begins with the image
   pub dumped_image : (dump_call settings (overwrite room 0 (words_of t)) rows buffer 0 (dump_bytes s.slots s.depth)).answer ≡ 0
-      → (dump_judged s t rows buffer ≡ Fine)
+      → (dump_judged s t rows buffer ≡ Ok tt)
       × (take (dump_bytes s.slots s.depth) (dump_call settings (overwrite room 0 (words_of t)) rows buffer 0 (dump_bytes s.slots s.depth)).lent
       ≡ image_of s t rows)
   dumped_image zero =
@@ -97,7 +97,7 @@ module _ (settings room : List ℕ) (set : setting_words ≤ length settings) (l
       (rw same at d.fine, rw same at d.image)
 
   -- a dump that the engine does not refuse answers 0
-  pub dump_answers : (from upto : ℕ) → dump_judged s t rows buffer ≡ Fine → (dump_call settings (overwrite room 0 (words_of t)) rows buffer from upto).answer ≡ 0
+  pub dump_answers : (from upto : ℕ) → dump_judged s t rows buffer ≡ Ok tt → (dump_call settings (overwrite room 0 (words_of t)) rows buffer from upto).answer ≡ 0
   unfolding dump_call call_of unless_bad dump_gives
   dump_answers from upto fine =
       rw (state_kept t h room long, lent_fine settings words set (rw overwrite-length long) rows, dump_room s t rows buffer fine, fine)
@@ -106,14 +106,14 @@ module _ (settings room : List ℕ) (set : setting_words ≤ length settings) (l
 
 restore_given : (v : Verdict) (x state rows after-rows : List ℕ) (after : RestoreLent)
     → restore_gives (restored_by v x) state (left_by v after-rows rows) ≡ gives after
-    → (v ≡ Fine) × (record { state = overwrite state 0 (words_of (state_in x)); rows = after-rows } ≡ after)
+    → (v ≡ Ok tt) × (record { state = overwrite state 0 (words_of (state_in x)); rows = after-rows } ≡ after)
 unfolding restored_by restore_gives left_by
-restore_given Fine x state rows after-rows after e = (refl, gives_same e)
-restore_given (Bad why) x state rows after-rows after e = refuses_not e
+restore_given (Ok tt) x state rows after-rows after e = (refl, gives_same e)
+restore_given (Err why) x state rows after-rows after e = refuses_not e
 
 -- an answer of 0: the image was accepted, and what is lent holds its state and its rows
 pub record RestoreDone (settings state x rows : List ℕ) : Type 0 where
-  pub accepted : restore_judged (settings_of settings) x rows ≡ Fine
+  pub accepted : restore_judged (settings_of settings) x rows ≡ Ok tt
   pub long : state_words ≤ length state
   pub leaves : (restore_call settings state x rows).lent
       ≡ record { state = overwrite state 0 (words_of (state_in x)); rows = overwrite rows 0 (window_in x) }
@@ -126,12 +126,12 @@ module _ (settings state x rows : List ℕ) where
       record { accepted = r.0; long = (lent_had settings state rows given.0).1; leaves = sym r.1 }
 
   -- with rooms that have their words, the answer is the verdict's
-  pub restore_answers : setting_words ≤ length settings → state_words ≤ length state → judged (room_lines (settings_of settings) rows) ≡ Fine
+  pub restore_answers : setting_words ≤ length settings → state_words ≤ length state → judged (room_lines (settings_of settings) rows) ≡ Ok tt
       → (restore_call settings state x rows).answer ≡ answer_of (restore_judged (settings_of settings) x rows)
   unfolding restore_call
   restore_answers set long ten = rw (lent_fine settings state set long rows, ten) (by (restore_judged (settings_of settings) x rows) _)
     where
-      by : (v : Verdict) (after : List ℕ) → (call_of (unless_bad Fine (restore_gives (restored_by v x) state after)) (record { state = state; rows = rows })).answer
+      by : (v : Verdict) (after : List ℕ) → (call_of (unless_bad (Ok tt) (restore_gives (restored_by v x) state after)) (record { state = state; rows = rows })).answer
           ≡ answer_of v
-      by Fine after = unfold call_of unless_bad restore_gives restored_by answer_of in refl
-      by (Bad r) after = unfold call_of unless_bad restore_gives restored_by answer_of in refl
+      by (Ok tt) after = unfold call_of unless_bad restore_gives restored_by answer_of in refl
+      by (Err r) after = unfold call_of unless_bad restore_gives restored_by answer_of in refl

@@ -1,16 +1,17 @@
 -- Of every call: an answer other than 0 leaves all that was lent as it was, its halves are the number and the place of what is refused, and
 -- an answer of 0 means that nothing was refused. One law over calls; TableCalls and RunCalls say for each call that its refusals are small.
-use Rattle.std.specs.Prelude.{ℕ, ◌<◌, ◌/◌, ◌%◌, ◌^◌, ◌≡◌, refl}
+use Rattle.std.specs.Prelude.{ℕ, ◌<◌, ◌/◌, ◌%◌, ◌^◌, ◌≡◌, refl, Err, Ok}
 use Rattle.words.specs.Prelude.{arith}
 use Rattle.words.specs.{declared.refusal.Refusal.Refusal, Outcome.Outcome, Outcome.gives, Outcome.refuses}
-use Rattle.refusals.specs.{declared.verdict.Verdict.Verdict, declared.verdict.Verdict.TheVariants.Fine, declared.verdict.Verdict.TheVariants.Bad}
 use Rattle.replies.specs.{Call.Call, Call.answer_word, Call.call_of, Call.unless_bad, Laws.Answers.answer_number, Laws.Answers.answer_place}
+use Rattle.refusals.specs.{Lines.Verdict}
+use Rattle.words.specs.{Outcome.number_of, Outcome.place_of}
 
 -- a number and a place that stand in the halves of an answer, and make it no 0
 pub record FitsAnswer (r : Refusal) : Type 0 where
-  pub some : 0 < r.number
-  pub number : r.number < 2 ^ 32
-  pub place : r.place < 2 ^ 32
+  pub some : 0 < number_of r
+  pub number : (number_of r) < 2 ^ 32
+  pub place : (place_of r) < 2 ^ 32
 
 pub record Numbered {A : Type 0} (o : Outcome A) : Type 0 where
   pub small : (r : Refusal) → o ≡ refuses r → FitsAnswer r
@@ -20,8 +21,8 @@ pub record Honest {A : Type 0} (call : Call A) (before : A) (o : Outcome A) : Ty
   -- "A refusal .. changes nothing lent."
   pub keeps : (call.answer ≡ 0 → ⊥) → call.lent ≡ before
   -- the number is the upper half of the answer, the place its lower half
-  pub number : (r : Refusal) → o ≡ refuses r → call.answer / 2 ^ 32 ≡ r.number
-  pub place : (r : Refusal) → o ≡ refuses r → call.answer % 2 ^ 32 ≡ r.place
+  pub number : (r : Refusal) → o ≡ refuses r → call.answer / 2 ^ 32 ≡ number_of r
+  pub place : (r : Refusal) → o ≡ refuses r → call.answer % 2 ^ 32 ≡ place_of r
   -- an answer other than 0 has a number other than 0
   pub told : (call.answer ≡ 0 → ⊥) → call.answer / 2 ^ 32 ≡ 0 → ⊥
   -- 0: nothing was refused, and what is lent is what was given
@@ -61,7 +62,7 @@ pub one_refusal : {A : Type 0} (r : Refusal) → FitsAnswer r → Numbered {A = 
 one_refusal r s = record { small = λ q e. let same : r ≡ q = cc in rw same at s }
 
 -- a verdict before an outcome
-pub after_verdict : {A : Type 0} (v : Verdict) (o : Outcome A) → ((r : Refusal) → v ≡ Bad r → FitsAnswer r) → Numbered o → Numbered (unless_bad v o)
+pub after_verdict : {A : Type 0} (v : Verdict) (o : Outcome A) → ((r : Refusal) → v ≡ Err r → FitsAnswer r) → Numbered o → Numbered (unless_bad v o)
 unfolding unless_bad
-after_verdict (Bad r) o s n = one_refusal r (s r refl)
-after_verdict Fine o s n = n
+after_verdict (Err r) o s n = one_refusal r (s r refl)
+after_verdict (Ok tt) o s n = n

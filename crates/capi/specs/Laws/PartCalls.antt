@@ -1,10 +1,9 @@
 -- ysh_dump_part: a part is a stretch of what ysh_dump leaves, and parts one after another are all of it. Each refusal has a number and a place that an
 -- answer can hold.
-use Rattle.std.specs.Prelude.{ℕ, ◌+◌, ◌≤◌, ◌≡◌, refl, true, List, [], ◌∷◌, ◌++◌, length, take, drop}
+use Rattle.std.specs.Prelude.{ℕ, ◌+◌, ◌≤◌, ◌≡◌, refl, true, List, [], ◌∷◌, ◌++◌, length, take, drop, Err, Ok}
 use Rattle.words.specs.Prelude.{sym, ap, ◌∙◌, arith, length-take}
 use Rattle.words.specs.{declared.refusal.Refusal.Refusal, Outcome.gives, Laws.Overwrite.overwrite_fits}
 use Rattle.records.specs.{declared.settings.Settings.Settings, declared.state.State.State, Settings.settings_of, StateWords.state_of}
-use Rattle.refusals.specs.{declared.verdict.Verdict.Verdict, declared.verdict.Verdict.TheVariants.Fine, declared.verdict.Verdict.TheVariants.Bad}
 use Rattle.refusals.specs.{Lines.judged, Rooms.room_lines, Rooms.state_lines, Settings.sizing_lines, Settings.slippage_lines, Settings.risk_lines}
 use Rattle.refusals.specs.{Settings.term_lines, Settings.entry_lines, Settings.setting_lines, Laws.Lines.both_fine}
 use Rattle.images.specs.{Layout.dump_bytes, Layout.size_for, Layout.image_of}
@@ -18,6 +17,7 @@ use Rattle.capi.specs.{Power.dump_gives, Power.dump_call, Part.PartLent, Part.pa
 use Rattle.capi.specs.{Laws.Calls.Numbered, Laws.Calls.Honest, Laws.Calls.honest, Laws.Calls.never_refuses, Laws.Calls.one_refusal}
 use Rattle.capi.specs.{Laws.Calls.after_verdict, Laws.DumpCalls.on_paper, Laws.DumpCalls.paper_small, Laws.DumpCalls.lent_small}
 use Rattle.capi.specs.{Laws.DumpCalls.dump_bytes_lem, Laws.DumpCalls.dump_honest}
+use Rattle.refusals.specs.{Lines.Verdict}
 use Rattle.std.proofs.Math.Seq.{take-append_seam}
 
 -- ---- honest
@@ -26,10 +26,10 @@ part_on_paper : (s : Settings) (t : State) (rows : List ℕ) → on_paper (part_
 unfolding on_paper part_lines room_lines setting_lines term_lines entry_lines sizing_lines slippage_lines risk_lines dump_state_lines state_lines
 part_on_paper s t rows = refl
 
-part_by : (v : Verdict) (after : PartLent) → ((r : Refusal) → v ≡ Bad r → FitsAnswer r) → Numbered (part_gives v after)
+part_by : (v : Verdict) (after : PartLent) → ((r : Refusal) → v ≡ Err r → FitsAnswer r) → Numbered (part_gives v after)
 unfolding part_gives
-part_by Fine after s = never_refuses after
-part_by (Bad why) after s = one_refusal why (s why refl)
+part_by (Ok tt) after s = never_refuses after
+part_by (Err why) after s = one_refusal why (s why refl)
 
 pub part_honest : (settings state rows : List ℕ) (at : ℕ) (before : PartLent) →
     (let s = settings_of settings in
@@ -48,11 +48,11 @@ part_honest settings state rows at before =
 -- ---- beside a whole dump
 
 -- what gave was refused by neither verdict
-both_passed : (v w : Verdict) (x y : List ℕ) → unless_bad v (dump_gives w x) ≡ gives y → (v ≡ Fine) × (w ≡ Fine) × (x ≡ y)
+both_passed : (v w : Verdict) (x y : List ℕ) → unless_bad v (dump_gives w x) ≡ gives y → (v ≡ Ok tt) × (w ≡ Ok tt) × (x ≡ y)
 unfolding unless_bad dump_gives
-both_passed Fine Fine x y e = (refl, refl, cc)
-both_passed Fine (Bad r) x y e = absurd (let z : ◌≡◌ {A = ℕ} 0 1 = cc in omega arith)
-both_passed (Bad r) w x y e = absurd (let z : ◌≡◌ {A = ℕ} 0 1 = cc in omega arith)
+both_passed (Ok tt) (Ok tt) x y e = (refl, refl, cc)
+both_passed (Ok tt) (Err r) x y e = absurd (let z : ◌≡◌ {A = ℕ} 0 1 = cc in omega arith)
+both_passed (Err r) w x y e = absurd (let z : ◌≡◌ {A = ℕ} 0 1 = cc in omega arith)
 
 -- the bytes of the image that call after call gives, each from where the part before it ends
 unfoldable pub in_calls : List ℕ → List ℕ → List ℕ → ℕ → List PartLent → List ℕ
@@ -76,7 +76,7 @@ first_filled part image at =
     ap (take (length bytes)) (overwrite_fits part 0 bytes fits) ∙ take-append_seam bytes (drop (0 + length bytes) part)
 
 -- settings that a dump lets pass
-settings_passed : (s : Settings) (t : State) (rows area : List ℕ) → dump_judged s t rows area ≡ Fine → judged (setting_lines s) ≡ Fine
+settings_passed : (s : Settings) (t : State) (rows area : List ℕ) → dump_judged s t rows area ≡ Ok tt → judged (setting_lines s) ≡ Ok tt
 unfolding dump_judged dump_lines
 settings_passed s t rows area h =
     (both_fine (setting_lines s) _ (both_fine (area_lines s area) _ (both_fine (room_lines s rows) _ h).1).1).0
@@ -85,7 +85,7 @@ module _
     (settings state rows area : List ℕ) (size : length area ≡ size_for (settings_of settings).slots (settings_of settings).depth)
     (done : (dump_call settings state rows area 0 (length area)).answer ≡ 0) where
   -- what the answer tells: rooms and words were let pass, and the image was written
-  both : (judged (lent_lines settings state rows) ≡ Fine) × (dump_judged (settings_of settings) (state_of state) rows area ≡ Fine)
+  both : (judged (lent_lines settings state rows) ≡ Ok tt) × (dump_judged (settings_of settings) (state_of state) rows area ≡ Ok tt)
       × (written (image_of (settings_of settings) (state_of state) rows) area 0 (length area) ≡ (dump_call settings state rows area 0 (length area)).lent)
   both = both_passed (judged (lent_lines settings state rows)) (dump_judged (settings_of settings) (state_of state) rows area) _ _
       ((dump_honest settings state rows area 0 (length area)).does done)

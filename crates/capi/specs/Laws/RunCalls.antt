@@ -1,34 +1,36 @@
 -- The calls that begin a run, step over a bar, end a run and give the metrics: each of their refusals has a number and a place that an
 -- answer can hold, so of each the law over calls holds.
-use Rattle.std.specs.Prelude.{ℕ, ◌<◌, ◌^◌, ◌≡◌, refl, Bool, true, false, cond, List, ◌++◌}
+use Rattle.std.specs.Prelude.{ℕ, ◌<◌, ◌^◌, ◌≡◌, refl, Bool, true, false, cond, List, ◌++◌, Err, Ok, Result}
 use Rattle.words.specs.Prelude.{arith}
 use Rattle.words.specs.{declared.refusal.Refusal.Refusal, Outcome.Outcome, Outcome.gives, Outcome.refuses, Words.overwrite}
 use Rattle.floats.specs.{Floats.float_of}
 use Rattle.metrics.specs.{declared.Metrics.Metrics, Records.whole, Figures.not_whole, Figures.computed}
 use Rattle.records.specs.{declared.settings.Settings.Settings, declared.state.State.State, Lent.Rooms, Lent.Lists, Settings.settings_of, State.fresh_state}
 use Rattle.records.specs.{StateWords.state_of, StateWords.words_of}
-use Rattle.refusals.specs.{declared.verdict.Verdict.Verdict, declared.verdict.Verdict.TheVariants.Fine, declared.verdict.Verdict.TheVariants.Bad, Lines.Line}
+use Rattle.refusals.specs.{Lines.Line}
 use Rattle.refusals.specs.{Lines.judged, Rooms.room_lines, Judgement.step_lines, Judgement.finish_lines, Judgement.finish_judged, Laws.Numbers.numbered}
 use Rattle.refusals.specs.{Laws.Numbers.number_within, Laws.Numbers.both_numbered, Laws.Numbers.step_numbered, Laws.Numbers.finish_numbered, Laws.Places.named}
 use Rattle.refusals.specs.{Laws.Places.named_placed, Laws.Places.place_below, Laws.Places.finish_place}
-use Rattle.engine.specs.{declared.answer.Answer.Answer, declared.answer.Answer.TheVariants.Refused, declared.answer.Answer.TheVariants.Done}
-use Rattle.engine.specs.{declared.answer.Ended.Ended, declared.answer.Finished.Finished, declared.answer.Finished.TheVariants.Refused as NotEnded}
-use Rattle.engine.specs.{declared.answer.Finished.TheVariants.Done as AtEnd, Step.With, Step.size_lines, Step.step_verdict, Step.step_answer, Finish.ended}
+use Rattle.engine.specs.{declared.answer.Ended.Ended}
+use Rattle.engine.specs.{Step.With, Step.size_lines, Step.step_verdict, Step.step_answer, Finish.ended}
 use Rattle.engine.specs.{Finish.concluded, Finish.finish_of, Laws.Refusal.refusal_changes_nothing, Laws.Verdict.verdict_place}
 use Rattle.replies.specs.{Call.unless_bad, Call.word_lines, Call.metric_lines}
 use Rattle.stepping.specs.{Bars.lent_lines, Bars.step_gives, Bars.step_call}
 use Rattle.capi.specs.{Fresh.fresh_call, Finish.finish_gives, Finish.finish_call, Figures.metrics_gives, Figures.metrics_call, Laws.Calls.FitsAnswer}
 use Rattle.capi.specs.{Laws.Calls.Numbered, Laws.Calls.Honest, Laws.Calls.honest, Laws.Calls.never_refuses, Laws.Calls.one_refusal}
 use Rattle.capi.specs.{Laws.Calls.after_verdict}
+use Rattle.engine.specs.{Ended.ended}
+use Rattle.refusals.specs.{Lines.Verdict}
+use Rattle.words.specs.{Outcome.place_of}
 
 -- lines that have the paper's numbers, and places below 2^32
-pub lines_small : (ls : List Line) → numbered ls ≡ true → (r : Refusal) → judged ls ≡ Bad r → r.place < 2 ^ 32 → FitsAnswer r
+pub lines_small : (ls : List Line) → numbered ls ≡ true → (r : Refusal) → judged ls ≡ Err r → place_of r < 2 ^ 32 → FitsAnswer r
 lines_small ls n r e near =
     let w = number_within ls r n e in
     record { some = omega (arith, w.0); number = omega (arith, w.1); place = near }
 
 -- and those whose places the papers name
-named_small : (ls : List Line) → numbered ls ≡ true → named ls ≡ true → (r : Refusal) → judged ls ≡ Bad r → FitsAnswer r
+named_small : (ls : List Line) → numbered ls ≡ true → named ls ≡ true → (r : Refusal) → judged ls ≡ Err r → FitsAnswer r
 named_small ls n p r e = lines_small ls n r e (place_below ls r (named_placed ls p) e)
 
 lent_numbered : (settings state rows : List ℕ) → numbered (lent_lines settings state rows) ≡ true
@@ -49,13 +51,13 @@ fresh_honest settings state = honest _ state (after_verdict _ _ (named_small (wo
 
 -- ---- ysh_step
 
-step_by : (answer : Answer) (state : List ℕ) (m : Rooms) → ((r : Refusal) (u : State) → answer ≡ Refused r u → FitsAnswer r)
+step_by : (answer : Result State (Refusal × State)) (state : List ℕ) (m : Rooms) → ((r : Refusal) (u : State) → answer ≡ Err (r, u) → FitsAnswer r)
     → Numbered (step_gives answer state m)
 unfolding step_gives
-step_by (Refused r u) state m s = one_refusal r (s r u refl)
-step_by (Done next) state m s = never_refuses _
+step_by (Err (r, u)) state m s = one_refusal r (s r u refl)
+step_by (Ok next) state m s = never_refuses _
 
-pub step_small : (s : Settings) (t : State) (bar : List ℕ) (m : Rooms) (ls : Lists) (r : Refusal) → step_verdict s t bar m ls ≡ Bad r → FitsAnswer r
+pub step_small : (s : Settings) (t : State) (bar : List ℕ) (m : Rooms) (ls : Lists) (r : Refusal) → step_verdict s t bar m ls ≡ Err r → FitsAnswer r
 unfolding size_lines numbered
 step_small s t bar m ls r e =
     lines_small (step_lines s t bar m ls ++ size_lines s t bar m)
@@ -77,16 +79,16 @@ step_honest settings state bar m ls =
 
 -- ---- ysh_finish
 
-finish_by : (finished : Finished) (state : List ℕ) (m : Rooms) (metrics : List ℕ) → ((r : Refusal) (u : State) → finished ≡ NotEnded r u → FitsAnswer r)
+finish_by : (finished : Result Ended (Refusal × State)) (state : List ℕ) (m : Rooms) (metrics : List ℕ) → ((r : Refusal) (u : State) → finished ≡ Err (r, u) → FitsAnswer r)
     → Numbered (finish_gives finished state m metrics)
 unfolding finish_gives
-finish_by (NotEnded r u) state m metrics s = one_refusal r (s r u refl)
-finish_by (AtEnd next figures) state m metrics s = never_refuses _
+finish_by (Err (r, u)) state m metrics s = one_refusal r (s r u refl)
+finish_by (Ok ended) state m metrics s = never_refuses _
 
-finish_said : (v : Verdict) (t : State) (m : Rooms) (done : With Ended) (r : Refusal) (u : State) → (concluded v t m done).result ≡ NotEnded r u → v ≡ Bad r
+finish_said : (v : Verdict) (t : State) (m : Rooms) (done : With Ended) (r : Refusal) (u : State) → (concluded v t m done).result ≡ Err (r, u) → v ≡ Err r
 unfolding concluded
-finish_said (Bad why) t m done r u e = cc
-finish_said Fine t m done r u e = absurd (let z : ◌≡◌ {A = ℕ} 0 1 = cc in omega arith)
+finish_said (Err why) t m done r u e = cc
+finish_said (Ok tt) t m done r u e = absurd (let z : ◌≡◌ {A = ℕ} 0 1 = cc in omega arith)
 
 finish_lines_lem : (settings state rows metrics : List ℕ) → numbered (lent_lines settings state rows ++ metric_lines metrics) ≡ true
 unfolding numbered lent_lines room_lines word_lines metric_lines
@@ -96,7 +98,7 @@ finish_rooms : (settings state rows metrics : List ℕ) → named (lent_lines se
 unfolding named lent_lines room_lines word_lines metric_lines
 finish_rooms settings state rows metrics = refl
 
-pub finish_small : (s : Settings) (t : State) (m : Rooms) (r : Refusal) → finish_judged s t m ≡ Bad r → FitsAnswer r
+pub finish_small : (s : Settings) (t : State) (m : Rooms) (r : Refusal) → finish_judged s t m ≡ Err r → FitsAnswer r
 finish_small s t m r e = lines_small (finish_lines s t m) (finish_numbered s t m) r (unfold finish_judged in e) (finish_place s t m r e)
 
 pub finish_honest : (settings state : List ℕ) (m : Rooms) (metrics : List ℕ) →

@@ -1,5 +1,5 @@
 -- ysh_append and ysh_stretch: each of their refusals has a number and a place that an answer can hold, so the law over calls holds of them.
-use Rattle.std.specs.Prelude.{ℕ, ◌<◌, ◌≡◌, refl, Bool, true, false, cond, ◌&&◌, List, ltb, length}
+use Rattle.std.specs.Prelude.{ℕ, ◌<◌, ◌≡◌, refl, Bool, true, false, cond, ◌&&◌, List, ltb, length, Err, Ok}
 use Rattle.words.specs.Prelude.{arith, ltb-true}
 use Rattle.words.specs.{Limits.most_count}
 use Rattle.floats.specs.{Floats.float_of, Floats.finite}
@@ -7,7 +7,6 @@ use Rattle.blocks.specs.{declared.best.Best.Best, Append.Append, Append.appended
 use Rattle.blocks.specs.{Reads.reads, Reads.told}
 use Rattle.capi.specs.{Stretch.BlockRooms, Stretch.append_gives, Stretch.append_call, Stretch.stretch_gives, Stretch.stretch_call, Laws.Calls.Numbered}
 use Rattle.capi.specs.{Laws.Calls.Honest, Laws.Calls.honest, Laws.Calls.one_refusal, Laws.Calls.never_refuses}
-use Rattle.blocks.specs.declared.stretch.Found.TheVariants as Found
 use Rattle.blocks.specs.Stretch as Stretch
 
 append_by : (p q r s : Bool) (held : ℕ) (closes blocks : List ℕ) → (q ≡ true → held < most_count) → (k : Append)
@@ -32,7 +31,7 @@ append_honest close before = honest _ before
     (finite (float_of close)) before.held before.closes before.blocks (ltb-true before.held most_count)
     (kept before.held close before.closes before.blocks) (never_refuses _))
 
-stretch_by : (p q : Bool) (best : Best) → Numbered (stretch_gives (cond p (cond q (Found.Best best) (Stretch.refused 18)) (Stretch.refused 13)))
+stretch_by : (p q : Bool) (best : Best) → Numbered (stretch_gives (cond p (cond q (Ok best) (Stretch.refused 18)) (Stretch.refused 13)))
 unfolding stretch_gives
 stretch_by true true best = never_refuses _
 stretch_by true false best = one_refusal _ (record { some = omega arith; number = omega arith; place = omega arith })

@@ -1,25 +1,21 @@
 -- The calls over a table, and over rows and lists of steps: each of their refusals has a number and a place that an answer can hold, so of
 -- each the law over calls holds.
-use Rattle.std.specs.Prelude.{ℕ, ◌+◌, ◌*◌, ◌<◌, ◌≤◌, ◌≡◌, refl, Bool, true, false, cond, not, ◌&&◌, List, eqb, ltb, leb, length}
+use Rattle.std.specs.Prelude.{ℕ, ◌+◌, ◌*◌, ◌<◌, ◌≤◌, ◌≡◌, refl, Bool, true, false, cond, not, ◌&&◌, List, eqb, ltb, leb, length, Err, None, Ok, Option, Result, Some}
 use Rattle.words.specs.Prelude.{arith, eqb-true, eqb-false}
 use Rattle.words.specs.{declared.refusal.Refusal.Refusal, Limits.most_slots, Limits.most_rows, Limits.most_reach, Limits.most_nodes, Limits.most_steps, Limits.trees}
-use Rattle.words.specs.{Outcome.Outcome, Outcome.refusal}
+use Rattle.words.specs.{Outcome.Outcome}
 use Rattle.rows.specs.{History.whole_rows}
-use Rattle.table.specs.{declared.answer.Answer.Answer, declared.answer.Answer.TheVariants.Accepted, declared.answer.Answer.TheVariants.Refused}
-use Rattle.table.specs.{declared.places.Place.Place, declared.places.Place.TheVariants.At, declared.places.Place.TheVariants.Nowhere}
-use Rattle.table.specs.{declared.silent.SilentAnswer.TheVariants.Lists, declared.silent.SilentAnswer.TheVariants.Refuses as SilentRefuses}
 use Rattle.table.specs.{declared.trees.Tree.Tree, declared.trees.Tree.TheVariants.Entry, declared.trees.Tree.TheVariants.Exit}
 use Rattle.table.specs.{declared.trees.Tree.TheVariants.ShortEntry, declared.trees.Tree.TheVariants.ShortExit, Header.newest_version, Header.mark_right}
 use Rattle.table.specs.{Header.version_right, Header.counts_right, Header.total, Header.header_refusal, Header.slots, Header.tree_number, Checked.or_refused}
 use Rattle.table.specs.{Checked.or_header, Checked.from7, Checked.from8, Checked.from9, Checked.checked_up_to, Checked.checked, Laws.Header.header_right}
 use Rattle.table.specs.{Silent.silent_tests, Silent.silent_answer, Silent.list_after_answer}
-use Rattle.needed.specs.{declared.depth.DepthAnswer.TheVariants.Needs, declared.depth.DepthAnswer.TheVariants.Refuses as DepthRefuses, Depth.depth_answer}
-use Rattle.rules.specs.{declared.position.PositionState.PositionState, declared.answers.RuleAnswer.TheVariants.Says}
-use Rattle.rules.specs.{declared.answers.RuleAnswer.TheVariants.Refuses as RuleRefuses, Answers.state_right, Answers.after_check, Answers.judged}
+use Rattle.needed.specs.{Depth.depth_answer}
+use Rattle.rules.specs.{declared.position.PositionState.PositionState}
+use Rattle.rules.specs.{Answers.state_right, Answers.after_check, Answers.judged}
 use Rattle.rules.specs.{Answers.answered}
-use Rattle.steps.specs.{declared.wellformed.Formed.Formed, declared.wellformed.Formed.TheVariants.Well, declared.wellformed.Formed.TheVariants.Bad}
-use Rattle.steps.specs.{declared.machine.Ran.Ran, declared.running.RunAnswer.TheVariants.Refuses as RunRefuses}
-use Rattle.steps.specs.{declared.translated.Translated.TheVariants.Writes, declared.translated.Translated.TheVariants.Refuses, Running.ran_if, Running.runs}
+use Rattle.steps.specs.{declared.machine.Ran.Ran}
+use Rattle.steps.specs.{Running.ran_if, Running.runs}
 use Rattle.steps.specs.{Translating.room_for, Translating.writes_or, Translating.after_table, Translating.translates}
 use Rattle.refusals.specs.{Laws.BadStep.bad_below}
 use Rattle.capi.specs.{Tables.numbered_tree, Tables.CheckLent, Tables.check_gives, Tables.check_call, Tables.DepthLent, Tables.depth_gives, Tables.depth_call}
@@ -27,6 +23,11 @@ use Rattle.capi.specs.{Tables.SilentLent, Tables.silent_gives, Tables.silent_cal
 use Rattle.capi.specs.{Tables.translate_call, Run.rule_gives, Run.rule_call, Run.RunLent, Run.run_gives, Run.run_call, Laws.TablePlaces.UpTo}
 use Rattle.capi.specs.{Laws.TablePlaces.wrong_within, Laws.TablePlaces.misfits_within, Laws.TablePlaces.deep_within, Laws.TablePlaces.far_within}
 use Rattle.capi.specs.{Laws.Calls.FitsAnswer, Laws.Calls.Numbered, Laws.Calls.Honest, Laws.Calls.honest, Laws.Calls.one_refusal, Laws.Calls.never_refuses}
+use Rattle.table.specs.{declared.answer.Accepted.Accepted}
+use Rattle.needed.specs.{Outcome.needs}
+use Rattle.table.specs.{Outcome.accepts}
+use Rattle.words.specs.declared.refusal.Refusal.TheVariants as Refusal
+use Rattle.words.specs.{Outcome.number_of, Outcome.place_of}
 
 -- ---- the numbers of a table's refusals
 
@@ -49,34 +50,34 @@ small n p lo hi near = record { some = lo; number = omega arith; place = omega a
 
 -- a number from 1 to 9, at a place of the table
 pub record OneToNine (why : Refusal) : Type 0 where
-  pub some : 0 < why.number
-  pub most : why.number ≤ 9
-  pub near : why.place ≤ 1024
+  pub some : 0 < number_of why
+  pub most : (number_of why) ≤ 9
+  pub near : (place_of why) ≤ 1024
 
 -- a rule of the table that is broken, or what the rules below it say
-rule_number : (n : ℕ) (q : Place) (a : Answer) (why : Refusal) → 0 < n → n ≤ 9 → UpTo most_nodes q → (a ≡ Refused why → OneToNine why)
-    → or_refused n q a ≡ Refused why → OneToNine why
+rule_number : (n : ℕ) (q : Option ℕ) (a : Result Accepted Refusal) (why : Refusal) → 0 < n → n ≤ 9 → UpTo most_nodes q → (a ≡ Err why → OneToNine why)
+    → or_refused n q a ≡ Err why → OneToNine why
 unfolding or_refused UpTo
-rule_number n Nowhere a why lo hi near below e = below e
-rule_number n (At p) a why lo hi near below e =
+rule_number n None a why lo hi near below e = below e
+rule_number n (Some p) a why lo hi near below e =
     let nine : OneToNine (refusal n p) = record { some = lo; most = hi; near = omega (arith, near) } in
     let same : refusal n p ≡ why = cc in rw same at nine
 
-header_or : (n : ℕ) (a : Answer) (why : Refusal) → n ≤ 9 → (n ≡ 0 → a ≡ Refused why → OneToNine why) → or_header n a ≡ Refused why → OneToNine why
+header_or : (n : ℕ) (a : Result Accepted Refusal) (why : Refusal) → n ≤ 9 → (n ≡ 0 → a ≡ Err why → OneToNine why) → or_header n a ≡ Err why → OneToNine why
 unfolding or_header
 header_or n a why hi below e = go (eqb n 0) refl e
   where
-    go : (b : Bool) → eqb n 0 ≡ b → cond b a (Refused (refusal n 0)) ≡ Refused why → OneToNine why
+    go : (b : Bool) → eqb n 0 ≡ b → cond b a (Err (refusal n 0)) ≡ Err why → OneToNine why
     go true d f = below (eqb-true n 0 d) f
     go false d f =
         let nine : OneToNine (refusal n 0) = record { some = omega (arith, eqb-false n 0 d); most = hi; near = omega arith } in
         let same : refusal n 0 ≡ why = cc in rw same at nine
 
-accepted_not : (n r : ℕ) (why : Refusal) → Accepted n r ≡ Refused why → OneToNine why
+accepted_not : (n r : ℕ) (why : Refusal) → accepts n r ≡ Err why → OneToNine why
 accepted_not n r why e = absurd (let z : ◌≡◌ {A = ℕ} 0 1 = cc in omega arith)
 
 -- "1 to 9 come first"
-pub one_to_nine : (t : List ℕ) (why : Refusal) → checked t ≡ Refused why → OneToNine why
+pub one_to_nine : (t : List ℕ) (why : Refusal) → checked t ≡ Err why → OneToNine why
 unfolding checked checked_up_to from7 from8 from9
 one_to_nine t why =
     header_or (header_refusal newest_version t) _ why (header_number t)
@@ -87,21 +88,21 @@ one_to_nine t why =
     (rule_number 9 _ _ why (omega arith) (omega arith) (far_within t r) (accepted_not _ _ why)))))
 
 -- and so it stands in an answer
-pub table_number : (t : List ℕ) (why : Refusal) → checked t ≡ Refused why → FitsAnswer why
+pub table_number : (t : List ℕ) (why : Refusal) → checked t ≡ Err why → FitsAnswer why
 table_number t why e =
     let nine = one_to_nine t why e in
     record { some = nine.some; number = omega (arith, nine.most); place = omega (arith, nine.near) }
 
 -- what a call goes by: its answer to a table
-abbrev ByTable : Answer → Type 0
-ByTable a = (why : Refusal) → a ≡ Refused why → FitsAnswer why
+abbrev ByTable : Result Accepted Refusal → Type 0
+ByTable a = (why : Refusal) → a ≡ Err why → FitsAnswer why
 
 -- ---- ysh_check
 
-check_numbered : (a : Answer) → ByTable a → Numbered (check_gives a)
+check_numbered : (a : Result Accepted Refusal) → ByTable a → Numbered (check_gives a)
 unfolding check_gives
-check_numbered (Refused why) s = one_refusal why (s why refl)
-check_numbered (Accepted n r) s = never_refuses _
+check_numbered (Err why) s = one_refusal why (s why refl)
+check_numbered (Ok accepted) s = never_refuses _
 
 pub check_honest : (t : List ℕ) (before : CheckLent) → Honest (check_call t before) before (check_gives (checked t))
 unfolding check_call
@@ -109,15 +110,15 @@ check_honest t before = honest _ before (check_numbered (checked t) (table_numbe
 
 -- ---- ysh_depth
 
-depth_by : (b : Bool) (rows row window : ℕ) → Numbered (depth_gives (cond b (DepthRefuses (refusal 12 7)) (Needs rows row window)))
+depth_by : (b : Bool) (rows row window : ℕ) → Numbered (depth_gives (cond b (Err (Refusal.Setting 7)) (needs rows row window)))
 unfolding depth_gives
 depth_by true rows row window = one_refusal _ (small _ _ (omega arith) (omega arith) (omega arith))
 depth_by false rows row window = never_refuses _
 
-depth_numbered : (a : Answer) (t : List ℕ) (back : ℕ) → ByTable a → Numbered (depth_gives (depth_answer a t back))
+depth_numbered : (a : Result Accepted Refusal) (t : List ℕ) (back : ℕ) → ByTable a → Numbered (depth_gives (depth_answer a t back))
 unfolding depth_gives depth_answer
-depth_numbered (Refused why) t back s = one_refusal why (s why refl)
-depth_numbered (Accepted n r) t back s = depth_by (ltb most_reach back) _ _ _
+depth_numbered (Err why) t back s = one_refusal why (s why refl)
+depth_numbered (Ok accepted) t back s = depth_by (ltb most_reach back) _ _ _
 
 pub depth_honest : (t : List ℕ) (back : ℕ) (before : DepthLent) → Honest (depth_call t back before) before (depth_gives (depth_answer (checked t) t back))
 unfolding depth_call
@@ -125,15 +126,15 @@ depth_honest t back before = honest _ before (depth_numbered (checked t) t back 
 
 -- ---- ysh_silent
 
-silent_by : (b : Bool) (many : ℕ) (list : List ℕ) → Numbered (silent_gives (cond b (SilentRefuses (refusal 10 18)) (Lists many)) list)
+silent_by : (b : Bool) (many : ℕ) (list : List ℕ) → Numbered (silent_gives (cond b (Err (Refusal.Room 18)) (Ok many)) list)
 unfolding silent_gives
 silent_by true many list = one_refusal _ (small _ _ (omega arith) (omega arith) (omega arith))
 silent_by false many list = never_refuses _
 
-silent_numbered : (a : Answer) (numbers : List ℕ) (places : ℕ) (list : List ℕ) → ByTable a → Numbered (silent_gives (silent_answer a numbers places) list)
+silent_numbered : (a : Result Accepted Refusal) (numbers : List ℕ) (places : ℕ) (list : List ℕ) → ByTable a → Numbered (silent_gives (silent_answer a numbers places) list)
 unfolding silent_gives silent_answer
-silent_numbered (Refused why) numbers places list s = one_refusal why (s why refl)
-silent_numbered (Accepted n r) numbers places list s = silent_by (ltb places (length numbers)) (length numbers) list
+silent_numbered (Err why) numbers places list s = one_refusal why (s why refl)
+silent_numbered (Ok accepted) numbers places list s = silent_by (ltb places (length numbers)) (length numbers) list
 
 pub silent_honest : (t : List ℕ) (rows : ℕ) (before : SilentLent) →
     (let answer = silent_answer (checked t) (silent_tests t rows) (length before.list) in
@@ -144,21 +145,21 @@ silent_honest t rows before = honest _ before (silent_numbered (checked t) (sile
 -- ---- ysh_translate
 
 translate_by : (b : Bool) (x count : ℕ) (room : List ℕ) → x ≤ 3
-    → Numbered (translate_gives (cond b (Refuses (refusal 10 (3 + x))) (Writes count)) room)
+    → Numbered (translate_gives (cond b (Err (Refusal.Room (3 + x))) (Ok count)) room)
 unfolding translate_gives
 translate_by true x count room h = one_refusal _ (small _ _ (omega arith) (omega arith) (omega arith))
 translate_by false x count room h = never_refuses _
 
-translate_numbered : (a : Answer) (t : List ℕ) (x : ℕ) (lent after : List ℕ) → x ≤ 3 → ByTable a
+translate_numbered : (a : Result Accepted Refusal) (t : List ℕ) (x : ℕ) (lent after : List ℕ) → x ≤ 3 → ByTable a
     → Numbered (translate_gives (after_table a (writes_or t x lent)) after)
 unfolding translate_gives after_table writes_or
-translate_numbered (Refused why) t x lent after h s = one_refusal why (s why refl)
-translate_numbered (Accepted n r) t x lent after h s = translate_by (ltb (length lent) (room_for t x)) x _ after h
+translate_numbered (Err why) t x lent after h s = one_refusal why (s why refl)
+translate_numbered (Ok accepted) t x lent after h s = translate_by (ltb (length lent) (room_for t x)) x _ after h
 
-absent_numbered : (a : Answer) (room : List ℕ) → ByTable a → Numbered (translate_gives (after_table a (Writes 0)) room)
+absent_numbered : (a : Result Accepted Refusal) (room : List ℕ) → ByTable a → Numbered (translate_gives (after_table a (Ok 0)) room)
 unfolding translate_gives after_table
-absent_numbered (Refused why) room s = one_refusal why (s why refl)
-absent_numbered (Accepted n r) room s = never_refuses _
+absent_numbered (Err why) room s = one_refusal why (s why refl)
+absent_numbered (Ok accepted) room s = never_refuses _
 
 tree_number_lem : (tree : Tree) → tree_number tree ≤ 3
 tree_number_lem Entry = omega arith
@@ -180,16 +181,16 @@ translate_honest t tree before =
 
 -- ---- ysh_rule
 
-rule_by : (b said : Bool) (tree : ℕ) → Numbered (rule_gives (cond b (Says said) (RuleRefuses (refusal 13 0))) tree)
+rule_by : (b said : Bool) (tree : ℕ) → Numbered (rule_gives (cond b (Ok said) (Err Refusal.Records)) tree)
 unfolding rule_gives
 rule_by true said tree = never_refuses _
 rule_by false said tree = one_refusal _ (small _ _ (omega arith) (omega arith) (omega arith))
 
-rule_numbered : (a : Answer) (t : List ℕ) (x : ℕ) (rows : List ℕ) (s : PositionState) (tree : ℕ) → ByTable a
+rule_numbered : (a : Result Accepted Refusal) (t : List ℕ) (x : ℕ) (rows : List ℕ) (s : PositionState) (tree : ℕ) → ByTable a
     → Numbered (rule_gives (after_check a (judged t x rows s)) tree)
 unfolding rule_gives after_check judged
-rule_numbered (Refused why) t x rows s tree n = one_refusal why (n why refl)
-rule_numbered (Accepted n r) t x rows s tree m = rule_by (whole_rows (slots t) rows && state_right s) _ tree
+rule_numbered (Err why) t x rows s tree n = one_refusal why (n why refl)
+rule_numbered (Ok accepted) t x rows s tree m = rule_by (whole_rows (slots t) rows && state_right s) _ tree
 
 pub rule_honest : (t : List ℕ) (tree : ℕ) (rows : List ℕ) (s : PositionState) (before : ℕ)
     → Honest (rule_call t tree rows s before) before (rule_gives (answered t (numbered_tree tree) rows s) tree)
@@ -199,17 +200,17 @@ rule_honest t tree rows s before = honest _ before (rule_numbered (checked t) t 
 -- ---- ysh_run
 
 -- a list's bad step is one of its at most 1,024
-abbrev Near : Formed → Type 0
-Near f = (p : ℕ) → f ≡ Bad p → p < most_steps
+abbrev Near : Result (Unit {0}) ℕ → Type 0
+Near f = (p : ℕ) → f ≡ Err p → p < most_steps
 
-run_formed : (f : Formed) (r : Ran) → Near f → Numbered (run_gives (ran_if f r))
+run_formed : (f : Result (Unit {0}) ℕ) (r : Ran) → Near f → Numbered (run_gives (ran_if f r))
 unfolding run_gives ran_if
-run_formed Well r near = never_refuses _
-run_formed (Bad p) r near = one_refusal _ (small _ _ (omega arith) (omega arith) (omega (arith, near p refl)))
+run_formed (Ok tt) r near = never_refuses _
+run_formed (Err p) r near = one_refusal _ (small _ _ (omega arith) (omega arith) (omega (arith, near p refl)))
 
-run_by : (b c d e : Bool) (f : Formed) (r : Ran) → Near f
-    → Numbered (run_gives (cond b (RunRefuses (refusal 12 0)) (cond c (RunRefuses (refusal 12 1)) (cond d (RunRefuses (refusal 12 1))
-    (cond e (ran_if f r) (RunRefuses (refusal 13 0)))))))
+run_by : (b c d e : Bool) (f : Result (Unit {0}) ℕ) (r : Ran) → Near f
+    → Numbered (run_gives (cond b (Err (Refusal.Setting 0)) (cond c (Err (Refusal.Setting 1)) (cond d (Err (Refusal.Setting 1))
+    (cond e (ran_if f r) (Err Refusal.Records))))))
 unfolding run_gives
 run_by true c d e f r near = one_refusal _ (small _ _ (omega arith) (omega arith) (omega arith))
 run_by false true d e f r near = one_refusal _ (small _ _ (omega arith) (omega arith) (omega arith))

@@ -1,20 +1,20 @@
 -- The places of a table's refusals: a node's number, or just past the last one, and so at most 256.
-use Rattle.std.specs.Prelude.{ℕ, zero, suc, ◌+◌, ◌≤◌, Bool, true, false, cond, List, [], ◌∷◌, ltb, eqb}
+use Rattle.std.specs.Prelude.{ℕ, zero, suc, ◌+◌, ◌≤◌, Bool, true, false, cond, List, [], ◌∷◌, ltb, eqb, None, Option, Some}
 use Rattle.words.specs.Prelude.{arith}
 use Rattle.words.specs.{Limits.most_reach, Limits.most_nesting, Limits.most_nodes}
-use Rattle.table.specs.{declared.places.Place.Place, declared.places.Place.TheVariants.At, declared.places.Place.TheVariants.Nowhere, Header.newest_version}
+use Rattle.table.specs.{Header.newest_version}
 use Rattle.table.specs.{Header.total, Header.count, Header.root, Nodes.node_at, Nodes.node_right, Nodes.wrong_node, Nodes.sort_at, Nodes.child_count_at}
 use Rattle.table.specs.{Nodes.child_fits_at, Order.fits, Order.misfit, Order.or_place, Order.of_four, Order.misfits, Forest.Forest, Forest.none, Forest.tree}
 use Rattle.table.specs.{Forest.first_trees, Forest.other_trees, Forest.node_over, Forest.trees, Forest.forest_of, Nesting.deeper, Nesting.too_deep, Reach.tree_reach}
 use Rattle.table.specs.{Reach.far_at, Reach.too_far, Laws.Header.HeaderRight}
 
 -- a place, where there is one, is at most n
-unfoldable pub UpTo : ℕ → Place → Type 0
-UpTo n Nowhere = Unit
-UpTo n (At p) = p ≤ n
+unfoldable pub UpTo : ℕ → Option ℕ → Type 0
+UpTo n None = Unit
+UpTo n (Some p) = p ≤ n
 
 -- of two that a test chooses between, each is
-either : (n : ℕ) (b : Bool) (q r : Place) → UpTo n q → UpTo n r → UpTo n (cond b q r)
+either : (n : ℕ) (b : Bool) (q r : Option ℕ) → UpTo n q → UpTo n r → UpTo n (cond b q r)
 either n true q r u v = u
 either n false q r u v = v
 
@@ -23,7 +23,7 @@ either n false q r u v = v
 wrong_node_lem : (t : List ℕ) (n m i : ℕ) → i + m ≤ n → UpTo n (wrong_node t m i)
 unfolding wrong_node UpTo
 wrong_node_lem t n zero i h = tt
-wrong_node_lem t n (suc m) i h = either n (node_right t i) (wrong_node t m (i + 1)) (At i) (wrong_node_lem t n m (i + 1) (omega arith)) (omega arith)
+wrong_node_lem t n (suc m) i h = either n (node_right t i) (wrong_node t m (i + 1)) (Some i) (wrong_node_lem t n m (i + 1) (omega arith)) (omega arith)
 
 -- ---- rule 7
 
@@ -33,12 +33,12 @@ no_fit t n zero i [] h = tt
 no_fit t n zero i (w ∷ ws) h = omega arith
 no_fit t n (suc m) i [] h = omega arith
 no_fit t n (suc m) i (w ∷ ws) h =
-    either n (eqb (sort_at t i) w) _ (At i)
-    (either n (child_fits_at t i) _ (At (i + 1)) (no_fit t n m (i + 1) _ (omega arith)) (omega arith)) (omega arith)
+    either n (eqb (sort_at t i) w) _ (Some i)
+    (either n (child_fits_at t i) _ (Some (i + 1)) (no_fit t n m (i + 1) _ (omega arith)) (omega arith)) (omega arith)
 
 misfit_place : (t : List ℕ) (n m b : ℕ) → b + m ≤ n → UpTo n (misfit t m b)
 unfolding misfit UpTo
-misfit_place t n m b h = either n (eqb m 0) Nowhere _ tt (no_fit t n m b _ h)
+misfit_place t n m b h = either n (eqb m 0) None _ tt (no_fit t n m b _ h)
 
 -- ---- rule 8
 
@@ -66,10 +66,10 @@ tree_numbers t n (suc m) i h =
     let after = tree_numbers t n m (i + 1) (omega arith) in
     (omega arith, first_numbers n (child_count_at t i) _ after, other_numbers n (child_count_at t i) _ after)
 
-first_of : (n : ℕ) (q r : Place) → UpTo n q → UpTo n r → UpTo n (or_place q r)
+first_of : (n : ℕ) (q r : Option ℕ) → UpTo n q → UpTo n r → UpTo n (or_place q r)
 unfolding or_place
-first_of n Nowhere r u v = v
-first_of n (At p) r u v = u
+first_of n None r u v = v
+first_of n (Some p) r u v = u
 
 deep_place : (n l : ℕ) (f : Forest) → Numbers n f → UpTo n (deeper l f)
 unfolding Numbers deeper UpTo
@@ -82,11 +82,11 @@ deep_place n (suc l) (tree x below rest) h =
 
 far_place : (n r b : ℕ) → b ≤ n → UpTo n (far_at r b)
 unfolding far_at UpTo
-far_place n r b h = either n (ltb most_reach r) (At b) Nowhere h tt
+far_place n r b h = either n (ltb most_reach r) (Some b) None h tt
 
 -- ---- the four trees of a table whose header is right
 
-of_four_lem : (n : ℕ) (f : ℕ → Place) → UpTo n (f 0) → UpTo n (f 1) → UpTo n (f 2) → UpTo n (f 3) → UpTo n (of_four f)
+of_four_lem : (n : ℕ) (f : ℕ → Option ℕ) → UpTo n (f 0) → UpTo n (f 1) → UpTo n (f 2) → UpTo n (f 3) → UpTo n (of_four f)
 unfolding of_four
 of_four_lem n f a b c d = first_of n (f 0) _ a (first_of n (f 1) _ b (first_of n (f 2) _ c d))
 

@@ -1,8 +1,8 @@
 -- ysh_totals and ysh_totals_join: each of their refusals has a number and a place that an answer can hold, so the law over calls holds of both.
-use Rattle.std.specs.Prelude.{ℕ, suc, ◌+◌, ◌/◌, ◌%◌, ◌^◌, ◌<◌, ◌≤◌, ◌≡◌, refl, Bool, true, false, cond, List, [], ◌∷◌, leb, eqb, length}
+use Rattle.std.specs.Prelude.{ℕ, suc, ◌+◌, ◌/◌, ◌%◌, ◌^◌, ◌<◌, ◌≤◌, ◌≡◌, refl, Bool, true, false, cond, List, [], ◌∷◌, leb, eqb, length, Ok}
 use Rattle.words.specs.Prelude.{arith, leb-true}
 use Rattle.words.specs.{Limits.trade_words, Limits.most_count}
-use Rattle.totals.specs.{declared.Answer.TheVariants.Done, Trades.Trade, Trades.acceptable, Trades.trades_from, Trades.good_start, Trades.judged_count}
+use Rattle.totals.specs.{Trades.Trade, Trades.acceptable, Trades.trades_from, Trades.good_start, Trades.judged_count}
 use Rattle.totals.specs.{Totals.unless, Totals.total_words, Totals.counts_of, Totals.traded, Totals.counts_fine, Totals.add_answer, Totals.add_leaves}
 use Rattle.totals.specs.{Totals.join_answer, Totals.join_leaves, Laws.Trades.length_trades}
 use Rattle.capi.specs.{Totals.totals_gives, Totals.totals_call, Totals.join_call, Laws.Calls.Numbered, Laws.Calls.Honest}
@@ -33,7 +33,7 @@ number_below n trades = omega (arith, good_most (trades_from (judged_count n) 0 
 -- ---- the lines of the two orders
 
 add_by : (a b c d e : Bool) (at : ℕ) (after : List ℕ) → at < 2 ^ 32
-    → Numbered (totals_gives (unless a 10 11 (unless b 13 0 (unless c 13 0 (unless d 17 at (unless e 22 0 Done))))) after)
+    → Numbered (totals_gives (unless a 10 11 (unless b 13 0 (unless c 13 0 (unless d 17 at (unless e 22 0 (Ok tt)))))) after)
 unfolding totals_gives
 add_by false b c d e at after h = one_refusal _ (record { some = omega arith; number = omega arith; place = omega arith })
 add_by true false c d e at after h = one_refusal _ (record { some = omega arith; number = omega arith; place = omega arith })
@@ -43,7 +43,7 @@ add_by true true true true false at after h = one_refusal _ (record { some = ome
 add_by true true true true true at after h = never_refuses after
 
 join_by : (a b c d e : Bool) (after : List ℕ)
-    → Numbered (totals_gives (unless a 10 11 (unless b 13 0 (unless c 13 0 (unless d 13 0 (unless e 22 0 Done))))) after)
+    → Numbered (totals_gives (unless a 10 11 (unless b 13 0 (unless c 13 0 (unless d 13 0 (unless e 22 0 (Ok tt)))))) after)
 unfolding totals_gives
 join_by false b c d e after = one_refusal _ (record { some = omega arith; number = omega arith; place = omega arith })
 join_by true false c d e after = one_refusal _ (record { some = omega arith; number = omega arith; place = omega arith })

@@ -1,19 +1,19 @@
 -- ysh_why_over: each of its refusals has a number and a place that an answer can hold, so the law over calls holds of it.
-use Rattle.std.specs.Prelude.{ℕ, ◌≡◌, refl, List, length}
+use Rattle.std.specs.Prelude.{ℕ, ◌≡◌, refl, List, length, Err, Ok, Result}
 use Rattle.words.specs.{declared.refusal.Refusal.Refusal}
-use Rattle.table.specs.{declared.answer.Answer.Answer, declared.answer.Answer.TheVariants.Accepted, declared.answer.Answer.TheVariants.Refused, Header.slots}
+use Rattle.table.specs.{Header.slots}
 use Rattle.table.specs.{Checked.checked}
-use Rattle.refusals.specs.{declared.verdict.Verdict.TheVariants.Bad}
 use Rattle.questions.specs.{Over.over_lines, Over.over_by, Over.over_verdict}
 use Rattle.capi.specs.{WhyOver.OverLent, WhyOver.over_gives, WhyOver.over_call, Laws.Calls.FitsAnswer, Laws.Calls.Honest, Laws.Calls.honest}
 use Rattle.capi.specs.{Laws.Calls.never_refuses, Laws.Calls.after_verdict, Laws.TableCalls.table_number, Laws.DumpCalls.on_paper}
 use Rattle.capi.specs.{Laws.DumpCalls.paper_small}
+use Rattle.table.specs.{declared.answer.Accepted.Accepted}
 
-over_small : (a : Answer) (t rows ps : List ℕ) (lines counts : ℕ) → ((why : Refusal) → a ≡ Refused why → FitsAnswer why)
-    → (r : Refusal) → over_by a t rows ps lines counts ≡ Bad r → FitsAnswer r
+over_small : (a : Result Accepted Refusal) (t rows ps : List ℕ) (lines counts : ℕ) → ((why : Refusal) → a ≡ Err why → FitsAnswer why)
+    → (r : Refusal) → over_by a t rows ps lines counts ≡ Err r → FitsAnswer r
 unfolding over_by over_lines on_paper
-over_small (Refused why) t rows ps lines counts n r e = let same : why ≡ r = cc in rw same at (n why refl)
-over_small (Accepted m k) t rows ps lines counts n r e = paper_small (over_lines (slots t) rows ps lines counts) refl r e
+over_small (Err why) t rows ps lines counts n r e = let same : why ≡ r = cc in rw same at (n why refl)
+over_small (Ok accepted) t rows ps lines counts n r e = paper_small (over_lines (slots t) rows ps lines counts) refl r e
 
 pub why_over_honest : (t : List ℕ) (tree : ℕ) (rows ps : List ℕ) (before : OverLent)
     → Honest (over_call t tree rows ps before) before (over_gives t tree rows ps before)

@@ -3,7 +3,7 @@ use Rattle.std.specs.Prelude.{ℕ, ◌+◌, ◌<◌, ◌≡◌, refl, Bool, true
 use Rattle.words.specs.Prelude.{arith, leb-false, eqb-false}
 use Rattle.words.specs.{Limits.trees}
 use Rattle.rows.specs.{History.History, History.history_of}
-use Rattle.table.specs.{declared.answer.Answer.TheVariants.Accepted, Header.slots, Header.count, Header.root, Checked.checked, Ends.ends_beside, Reading.tree_of}
+use Rattle.table.specs.{Header.slots, Header.count, Header.root, Checked.checked, Ends.ends_beside, Reading.tree_of}
 use Rattle.table.specs.{Trees.Operand, Trees.const, Trees.ref, Trees.price, Trees.prev, Trees.arith as sums, Trees.extreme, Trees.Condition, Trees.Conditions}
 use Rattle.table.specs.{Trees.compare, Trees.cross, Trees.between, Trees.trend, Trees.every, Trees.any, Trees.negated, Trees.in_position, Trees.bars_since}
 use Rattle.table.specs.{Trees.none, Trees.more, Writing.nodes_in, Writing.nodes_of}
@@ -11,6 +11,7 @@ use Rattle.rules.specs.{declared.position.PositionState.PositionState, Meaning.n
 use Rattle.chain.specs.{Missing.in_table, Missing.missing_in, Missing.missing_in_two, Missing.missing_in_three, Chain.shown, Chain.line_at, Chain.chain}
 use Rattle.chain.specs.{Chain.first_with, Explained.explanation, Flat.by_ends, Flat.flat_explanation, Laws.Spaced.SpacedIn, Laws.Spaced.Spaced}
 use Rattle.chain.specs.{Laws.Spaced.SpacedAll, Laws.Spaced.operand_end, Laws.Spaced.condition_end, Laws.Spaced.tree_spaced}
+use Rattle.table.specs.{Outcome.accepts}
 
 module _ (ends : List ℕ) (h : History) where
   missing_same : (a : Operand) (i bar back : ℕ) → SpacedIn ends a i → missing_in (by_ends ends) h a i bar back ≡ missing_in in_table h a i bar back
@@ -73,7 +74,7 @@ module _ (ends : List ℕ) (h : History) where
           rw (condition_end ends c j p.0, chain_same c j bar p.0, first_same answer cs (in_table j (nodes_of c)) bar p.1)
 
 -- WHAT THE CODE FINDS on an accepted table with the array beside its answer is the tree's chain with the table's own numbers.
-pub explanation_found : (t : List ℕ) (n r : ℕ) → checked t ≡ Accepted n r → (x : ℕ) (rows : List ℕ) (s : PositionState)
+pub explanation_found : (t : List ℕ) (n r : ℕ) → checked t ≡ accepts n r → (x : ℕ) (rows : List ℕ) (s : PositionState)
     → flat_explanation t (ends_beside t) x rows s ≡ explanation t x rows s
 unfolding flat_explanation explanation
 explanation_found t n r ok x rows s = high (leb trees x) refl

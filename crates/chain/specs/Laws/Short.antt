@@ -3,12 +3,13 @@ use Rattle.std.specs.Prelude.{ℕ, ◌+◌, ◌≤◌, ◌<◌, max, ◌≡◌, 
 use Rattle.words.specs.Prelude.{Bool·beq, arith, leb-false, eqb-false}
 use Rattle.words.specs.{Limits.trees}
 use Rattle.rows.specs.{History.History, History.history_of}
-use Rattle.table.specs.{declared.answer.Answer.TheVariants.Accepted, Bytes.Bytes, Header.slots, Header.count, Header.root, Checked.checked, Reading.tree_of}
+use Rattle.table.specs.{Bytes.Bytes, Header.slots, Header.count, Header.root, Checked.checked, Reading.tree_of}
 use Rattle.table.specs.{Trees.Condition, Trees.Conditions, Trees.compare, Trees.cross, Trees.between, Trees.trend, Trees.every, Trees.any, Trees.negated}
 use Rattle.table.specs.{Trees.in_position, Trees.bars_since, Trees.none, Trees.more, Writing.nodes_of, Limits.levels_of, Limits.levels_of_all}
 use Rattle.roundtrip.specs.{Laws.AcceptedWithin.tree_within}
 use Rattle.rules.specs.{declared.position.PositionState.PositionState, Meaning.newest, Meaning.holds}
 use Rattle.chain.specs.{Missing.Numbering, Missing.in_table, Chain.ChainLine, Chain.chain, Chain.first_with, Explained.explanation}
+use Rattle.table.specs.{Outcome.accepts}
 
 picked : (b : Bool) (xs ys : List ChainLine) (m n : ℕ) → length xs ≤ m → length ys ≤ n → length (cond b xs ys) ≤ max m n
 picked true xs ys m n p q = omega arith
@@ -37,7 +38,7 @@ module _ (after : Numbering) (h : History) (s : PositionState) (bar : ℕ) where
         (levels_of c) (levels_of_all cs) (chain_short c j) (first_short answer cs (after j (nodes_of c)))
 
 -- AT MOST 32 LINES: "10 if the lent list holds fewer than 32 lines" asks for enough.
-pub few_lines : (t : List ℕ) → Bytes t → (n r : ℕ) → checked t ≡ Accepted n r → (x : ℕ) (rows : List ℕ) (s : PositionState)
+pub few_lines : (t : List ℕ) → Bytes t → (n r : ℕ) → checked t ≡ accepts n r → (x : ℕ) (rows : List ℕ) (s : PositionState)
     → length (explanation t x rows s) ≤ 32
 unfolding explanation
 few_lines t small n r ok x rows s = high (leb trees x) refl

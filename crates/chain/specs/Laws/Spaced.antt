@@ -2,7 +2,7 @@
 -- nodes. Assumes nothing.
 use Rattle.std.specs.Prelude.{ℕ, zero, suc, ◌+◌, ◌-◌, ◌≤◌, ◌<◌, ◌≡◌, true, List, eqb}
 use Rattle.words.specs.Prelude.{sym, ap, subst, ◌∙◌, true≢false, arith, lt-leb}
-use Rattle.table.specs.{declared.kinds.Kind.Kind, declared.answer.Answer.TheVariants.Accepted, Kinds.kind_of, Kinds.is_series, Kinds.extremum}
+use Rattle.table.specs.{declared.kinds.Kind.Kind, Kinds.kind_of, Kinds.is_series, Kinds.extremum}
 use Rattle.table.specs.{Laws.Kinds.OperandKind, Laws.Kinds.a_const, Laws.Kinds.a_ref, Laws.Kinds.a_price, Laws.Kinds.a_prev, Laws.Kinds.an_arith}
 use Rattle.table.specs.{Laws.Kinds.an_extreme, Laws.Kinds.operand_kind, Laws.Kinds.ConditionKind, Laws.Kinds.a_compare, Laws.Kinds.a_cross}
 use Rattle.table.specs.{Laws.Kinds.a_between, Laws.Kinds.a_trend, Laws.Kinds.an_all, Laws.Kinds.an_any, Laws.Kinds.a_not, Laws.Kinds.a_position}
@@ -17,6 +17,7 @@ use Rattle.roundtrip.specs.{Laws.Walking.Stands, Laws.Walking.node_there, Laws.W
 use Rattle.roundtrip.specs.{Laws.Walking.stands_next, Laws.Walking.stands_below, Laws.Walking.tree_stands}
 use Rattle.rules.specs.{Shapes.end_in, Shapes.operand_of, Shapes.condition_of, Shapes.operand_shape, Shapes.condition_shape, Flat.grow_operand, Flat.flat_operand_at}
 use Rattle.rules.specs.{Flat.grow_conditions, Flat.group, Flat.grow_condition, Flat.flat_condition_at, Laws.FlatReading.end_is, Laws.FlatReading.tree_joined}
+use Rattle.table.specs.{Outcome.accepts}
 
 -- The array leads from each node of a tree, the first one number i, over as many numbers as stand below it.
 unfoldable pub SpacedIn : List ℕ → Operand → ℕ → Type 0
@@ -272,7 +273,7 @@ module _ (t ends : List ℕ) (b e : ℕ) (whole : WholeTree t ends b e) where
 
 -- THE NUMBERS: in a tree of an accepted table each child's number, found with the array beside the answer, is the number past the
 -- nodes before it.
-pub tree_spaced : (t : List ℕ) (n r : ℕ) → checked t ≡ Accepted n r → (x : ℕ) → x < 4 → 0 < count t x → Spaced (ends_beside t) (tree_of t x) (root t x)
+pub tree_spaced : (t : List ℕ) (n r : ℕ) → checked t ≡ accepts n r → (x : ℕ) → x < 4 → 0 < count t x → Spaced (ends_beside t) (tree_of t x) (root t x)
 tree_spaced t n r ok x l some =
     rw (← tree_joined t n r ok x l some, ends_of t n r ok)
     (condition_spaced t (ends_all t) (root t x) (root t (suc x)) (tree_whole t n r ok x l) 32 (root t x) (tree_stands t x n r ok l some) (omega arith))

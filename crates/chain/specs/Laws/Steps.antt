@@ -1,5 +1,5 @@
 -- The chain on the flat table, one node at a time. Assumes nothing.
-use Rattle.std.specs.Prelude.{ℕ, zero, suc, ◌-◌, ◌<◌, ◌≡◌, refl, Bool, true, false, cond, List, [], ◌∷◌}
+use Rattle.std.specs.Prelude.{ℕ, zero, suc, ◌-◌, ◌<◌, ◌≡◌, refl, Bool, true, false, cond, List, [], ◌∷◌, None, Option, Some}
 use Rattle.words.specs.Prelude.{sym, ap, Bool·beq, arith, sub-one}
 use Rattle.rows.specs.{History.History}
 use Rattle.table.specs.{Trees.Operand, Trees.Condition, Trees.every, Trees.any, Trees.negated}
@@ -10,7 +10,7 @@ use Rattle.rules.specs.{declared.shapes.ConditionShape.TheVariants.Group, declar
 use Rattle.rules.specs.{declared.shapes.ConditionShape.TheVariants.InPosition, declared.shapes.ConditionShape.TheVariants.BarsSince}
 use Rattle.rules.specs.{declared.shapes.ConditionShape.TheVariants.NoCondition, Meaning.holds, Shapes.end_in, Shapes.condition_shape, Flat.flat_operand_at}
 use Rattle.rules.specs.{Flat.grow_conditions, Flat.group, Flat.grow_condition, Flat.flat_condition_at}
-use Rattle.chain.specs.{declared.walk.Next.Next, declared.walk.Next.TheVariants.Stop, declared.walk.Next.TheVariants.Node, Chain.ChainLine}
+use Rattle.chain.specs.{Chain.ChainLine}
 use Rattle.chain.specs.{Chain.line_at, Chain.chain, Chain.first_with, Flat.by_ends, Flat.first_at, Flat.next_by, Flat.next_at, Flat.followed}
 use Rattle.chain.specs.{Laws.Shapes.ConditionPlaced, Laws.Shapes.condition_placed}
 
@@ -22,7 +22,7 @@ module _ (ends : List ℕ) (h : History) (s : PositionState) (bar : ℕ) (below 
   abbrev says : ℕ → Bool
   says j = holds h s (below j) bar
 
-  picked : (b : Bool) (j : ℕ) (rest : Next) → cond b (from j) (followed rest from) ≡ followed (cond b (Node j) rest) from
+  picked : (b : Bool) (j : ℕ) (rest : Option ℕ) → cond b (from j) (followed rest from) ≡ followed (cond b (Some j) rest) from
   unfolding followed
   picked true j rest = refl
   picked false j rest = refl
@@ -67,22 +67,22 @@ chain_step t ends h s bar (suc left) i =
 
 module _ (t ends : List ℕ) (h : History) (s : PositionState) (bar left i : ℕ) where
   -- the chain stops at the node, or goes on from node j
-  pub chain_stops : next_at left t ends h s i bar ≡ Stop
+  pub chain_stops : next_at left t ends h s i bar ≡ None
       → chain (by_ends ends) h s (flat_condition_at left t ends i) i bar ≡ line_at (by_ends ends) h s (flat_condition_at left t ends i) i bar ∷ []
   unfolding followed
   chain_stops e = rw e at (chain_step t ends h s bar left i)
 
-  pub chain_goes : (j : ℕ) → next_at left t ends h s i bar ≡ Node j
+  pub chain_goes : (j : ℕ) → next_at left t ends h s i bar ≡ Some j
       → chain (by_ends ends) h s (flat_condition_at left t ends i) i bar
       ≡ line_at (by_ends ends) h s (flat_condition_at left t ends i) i bar ∷ chain (by_ends ends) h s (flat_condition_at (left - 1) t ends j) j bar
   unfolding followed
   chain_goes j e = rw e at (chain_step t ends h s bar left i)
 
   -- a node that the chain goes on from has a level above it
-  pub goes_down : (j : ℕ) → next_at left t ends h s i bar ≡ Node j → 0 < left
+  pub goes_down : (j : ℕ) → next_at left t ends h s i bar ≡ Some j → 0 < left
   unfolding next_at
   goes_down j e = go left e
     where
-      go : (left : ℕ) → next_at left t ends h s i bar ≡ Node j → 0 < left
+      go : (left : ℕ) → next_at left t ends h s i bar ≡ Some j → 0 < left
       go zero f = absurd (let z : ◌≡◌ {A = ℕ} 0 1 = cc in omega arith)
       go (suc left) f = omega arith

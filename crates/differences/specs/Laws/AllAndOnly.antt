@@ -1,26 +1,26 @@
 -- ALL AND ONLY: where the comparison answers lines, those that stand in the room say what differs between the two runs, all of it and nothing else.
 -- Assumes nothing.
-use Rattle.std.specs.Prelude.{ℕ, ◌*◌, ◌%◌, ◌≤◌, ◌≡◌, refl, Bool, true, false, cond, ◌&&◌, List, eqb, leb, drop, length}
+use Rattle.std.specs.Prelude.{ℕ, ◌*◌, ◌%◌, ◌≤◌, ◌≡◌, refl, Bool, true, false, cond, ◌&&◌, List, eqb, leb, drop, length, Err, Ok, Result}
 use Rattle.words.specs.Prelude.{sym, ap, subst, ◌∙◌, false≢true, eqb-true, leb-true}
-use Rattle.words.specs.{declared.refusal.Refusal.Refusal, Limits.point_words, Limits.trade_words, Outcome.refusal, Words.overwrite}
+use Rattle.words.specs.{declared.refusal.Refusal.Refusal, Limits.point_words, Limits.trade_words, Words.overwrite}
 use Rattle.words.specs.{Laws.Overwrite.overwrite-length}
-use Rattle.differences.specs.{declared.compare.Compared.Compared, declared.compare.Compared.TheVariants.Lines}
-use Rattle.differences.specs.{declared.compare.Compared.TheVariants.Refused, Compared.Comparison, Compared.whole, Compared.written, Compared.compared}
+use Rattle.differences.specs.{Compared.Comparison, Compared.whole, Compared.written, Compared.compared}
 use Rattle.differences.specs.{Lines.Line, Lines.differences, Lines.line_words, Lines.words_of, Truth.AllAndOnly, Truth.lines_in, Truth.Answered}
 use Rattle.differences.specs.{Laws.ReadBack.lines_back, Laws.ReadBack.rest_kept, Laws.Said.lines_so}
+use Rattle.words.specs.declared.refusal.Refusal.TheVariants as Refusal
 
-unfoldable is_lines : Compared → Bool
-is_lines (Lines n) = true
-is_lines (Refused r) = false
+unfoldable is_lines : Result ℕ Refusal → Bool
+is_lines (Ok n) = true
+is_lines (Err r) = false
 
-unfoldable how_many : Compared → ℕ
-how_many (Lines n) = n
-how_many (Refused r) = 0
+unfoldable how_many : Result ℕ Refusal → ℕ
+how_many (Ok n) = n
+how_many (Err r) = 0
 
 -- an answer that is lines came by the first way
 by_first : (b : Bool) (x : Comparison) (r : Refusal) (room after : List ℕ) (n : ℕ)
-    → cond b x (record { answer = Refused r; room = room }) ≡ record { answer = Lines n; room = after }
-    → (b ≡ true) × (x ≡ record { answer = Lines n; room = after })
+    → cond b x (record { answer = Err r; room = room }) ≡ record { answer = Ok n; room = after }
+    → (b ≡ true) × (x ≡ record { answer = Ok n; room = after })
 unfolding is_lines
 by_first true x r room after n e = (refl, e)
 by_first false x r room after n e = absurd (false≢true (ap (λ (y : Comparison). is_lines y.answer) e))
@@ -45,16 +45,16 @@ pub record Came (e t e' t' room : List ℕ) (n : ℕ) (after : List ℕ) : Type 
   pub fits : line_words * length (differences e t e' t') ≤ length room
   pub stand : after ≡ overwrite room 0 (words_of (differences e t e' t'))
 
-module _ (e t e' t' room : List ℕ) (n : ℕ) (after : List ℕ) (h : compared e t e' t' room ≡ record { answer = Lines n; room = after }) where
+module _ (e t e' t' room : List ℕ) (n : ℕ) (after : List ℕ) (h : compared e t e' t' room ≡ record { answer = Ok n; room = after }) where
   abbrev ls : List Line
   ls = differences e t e' t'
 
   pub came : Came e t e' t' room n after
   unfolding compared written how_many
   came =
-      let one = by_first (whole e t && whole e' t') (written ls room) (refusal 13 0) room after n h in
-      let two = by_first (leb (line_words * length ls) (length room)) (record { answer = Lines (length ls); room = overwrite room 0 (words_of ls) })
-      (refusal 10 15) room after n one.1 in
+      let one = by_first (whole e t && whole e' t') (written ls room) Refusal.Records room after n h in
+      let two = by_first (leb (line_words * length ls) (length room)) (record { answer = Ok (length ls); room = overwrite room 0 (words_of ls) })
+      (Refusal.Room 15) room after n one.1 in
       record {
         whole_list = whole_trades e t (and_first (whole e t) (whole e' t') one.0);
         whole_other = whole_trades e' t' (and_second (whole e t) (whole e' t') one.0);

@@ -1,8 +1,8 @@
 -- ENOUGH: a room of five words for each word of a trade that both have, and fifteen more, holds the lines of any two runs. Assumes nothing.
-use Rattle.std.specs.Prelude.{ℕ, ◌+◌, ◌*◌, ◌≤◌, min, ◌≡◌, true, List, length}
+use Rattle.std.specs.Prelude.{ℕ, ◌+◌, ◌*◌, ◌≤◌, min, ◌≡◌, true, List, length, Ok}
 use Rattle.words.specs.Prelude.{le-leb, arith}
 use Rattle.words.specs.{Limits.trade_words, Words.overwrite}
-use Rattle.differences.specs.{declared.compare.Compared.TheVariants.Lines, Lines.points, Lines.trades, Lines.first_point}
+use Rattle.differences.specs.{Lines.points, Lines.trades, Lines.first_point}
 use Rattle.differences.specs.{Lines.differences, Lines.line_words, Lines.words_of, Compared.whole, Compared.written, Compared.compared}
 use Rattle.differences.specs.{Truth.enough_words, Laws.Counted.few_lines, Laws.Counted.all_lines, Laws.Counted.lines_most, Laws.Counted.equity_most}
 use Rattle.differences.specs.{Laws.Counted.surplus_most}
@@ -27,7 +27,7 @@ module _ (e t e' t' : List ℕ) where
   -- ENOUGH. Of lists of whole records the lines are written.
   pub always_written : (room : List ℕ) → whole e t ≡ true → whole e' t' ≡ true → enough_words (min (trades t) (trades t')) ≤ length room
       → compared e t e' t' room
-      ≡ record { answer = Lines (length (differences e t e' t')); room = overwrite room 0 (words_of (differences e t e' t')) }
+      ≡ record { answer = Ok (length (differences e t e' t')); room = overwrite room 0 (words_of (differences e t e' t')) }
   unfolding compared written
   always_written room h i l =
       simp (h, i, le-leb (line_words * length (differences e t e' t')) (length room) (holds _ _ _ differences_most l))

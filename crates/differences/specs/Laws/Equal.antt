@@ -1,10 +1,10 @@
 -- EQUAL RUNS: no lines exactly where the lists of trades are equal, and the equity of the points. Assumes nothing.
-use Rattle.std.specs.Prelude.{ℕ, zero, suc, ◌+◌, ◌*◌, ◌/◌, ◌%◌, ◌<◌, ◌≤◌, min, ◌≡◌, refl, List, [], ◌∷◌, get_or, length}
+use Rattle.std.specs.Prelude.{ℕ, zero, suc, ◌+◌, ◌*◌, ◌/◌, ◌%◌, ◌<◌, ◌≤◌, min, ◌≡◌, refl, List, [], ◌∷◌, get_or, length, Ok}
 use Rattle.words.specs.Prelude.{sym, ap, subst, ◌∙◌, ⊎_elim, arith}
 use Rattle.words.specs.Prelude.{ext_get_or}
 use Rattle.words.specs.{Limits.trade_words}
 use Rattle.differences.specs.{Lines.Line, Lines.points, Lines.trades, Lines.equity_at, Lines.differences, Truth.Says, Truth.equity, Truth.trade}
-use Rattle.differences.specs.{declared.compare.Compared.TheVariants.Lines, Compared.compared, Laws.Written.no_lines, Truth.more_trades}
+use Rattle.differences.specs.{Compared.compared, Laws.Written.no_lines, Truth.more_trades}
 use Rattle.differences.specs.{Truth.more_points, Truth.AllAndOnly, Truth.Equal, Laws.First.same_or, Laws.First.not_last, Laws.Said.at_place}
 use Rattle.differences.specs.{Laws.Said.within, Laws.Said.its_place, Laws.Said.lines_so, Laws.AllAndOnly.came}
 use mathlib.Core.List.Memᴰ
@@ -89,7 +89,7 @@ module _ (e t e' t' : List ℕ) where
   silent_equal p q s = none_equal p q (subst (AllAndOnly e t e' t') s (lines_so e t e' t'))
 
   -- EQUAL RUNS, of an answer: there are no lines exactly where the runs are equal.
-  pub none_exactly : (room : List ℕ) (n : ℕ) (after : List ℕ) → compared e t e' t' room ≡ record { answer = Lines n; room = after }
+  pub none_exactly : (room : List ℕ) (n : ℕ) (after : List ℕ) → compared e t e' t' room ≡ record { answer = Ok n; room = after }
       → (n ≡ 0 → Equal e t e' t') × (Equal e t e' t' → n ≡ 0)
   none_exactly room n after h =
       let c = came e t e' t' room n after h in (

@@ -4,9 +4,9 @@ use Rattle.dumpable.specs.{Laws.Fine.dump_fine}
 use Rattle.dump.proofs.{Answers.dump_refused, Answers.dump_done}
 use Rattle.dump.proofs.dump.Goals as goal
 
-pub returns-in-Bad : goal.returns-in-Bad
-returns-in-Bad c =
-    dump_refused _ _ _ _ _ _ c.judge_dump.ensures c.in-Bad.is
+pub returns-in-Err : goal.returns-in-Err
+returns-in-Err c =
+    dump_refused _ _ _ _ _ _ c.judge_dump.ensures c.in-Err.is
 
 pub write_dump-requires : goal.write_dump-requires
 write_dump-requires c =

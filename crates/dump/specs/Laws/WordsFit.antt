@@ -1,9 +1,8 @@
 -- Words of which a part refuses nothing, seen in the words as they are.
-use Rattle.std.specs.Prelude.{ℕ, ◌+◌, ◌*◌, ◌≤◌, ◌≡◌, Bool, true, cond, List, length, replicate}
+use Rattle.std.specs.Prelude.{ℕ, ◌+◌, ◌*◌, ◌≤◌, ◌≡◌, Bool, true, cond, List, length, replicate, Ok}
 use Rattle.words.specs.Prelude.{sym, ap, ◌∙◌, length-replicate}
 use Rattle.words.specs.{Limits.setting_words, Limits.state_words, Limits.row_words, Limits.most_slots, Limits.most_rows, Words.overwrite}
 use Rattle.records.specs.{Settings.settings_of, StateWords.state_of}
-use Rattle.refusals.specs.{declared.verdict.Verdict.TheVariants.Fine}
 use Rattle.images.specs.{Layout.head_bytes, Layout.image_of}
 use Rattle.dumpable.specs.{Refused.part_judged, Laws.Fine.fine_part, Laws.Passing.words_pass, Laws.Passing.words_fine}
 use Rattle.dump.specs.{Parts.bytes_from}
@@ -16,7 +15,7 @@ most_bytes = head_bytes + 8 * (most_rows * row_words most_slots)
 pub record WordsFit (settings state rows : List ℕ) : Type 0 where
   pub long : setting_words ≤ length settings
   pub full : state_words ≤ length state
-  pub fine : part_judged (settings_of settings) (state_of state) rows ≡ Fine
+  pub fine : part_judged (settings_of settings) (state_of state) rows ≡ Ok tt
 
 -- WHERE THE WORDS PASS, with an area for the greatest image, no part of theirs is refused
 pub words_fit : (settings state rows : List ℕ) → words_pass settings state (length rows) most_bytes ≡ true → WordsFit settings state rows

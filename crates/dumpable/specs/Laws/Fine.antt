@@ -1,9 +1,9 @@
 -- What a dump, or a part, that is judged fine has been seen to have.
-use Rattle.std.specs.Prelude.{ℕ, ◌≤◌, ◌≡◌, List, leb, length}
+use Rattle.std.specs.Prelude.{ℕ, ◌≤◌, ◌≡◌, List, leb, length, Ok}
 use Rattle.words.specs.Prelude.{◌∙◌, leb-true}
 use Rattle.words.specs.{Limits.most_slots, Limits.most_rows}
 use Rattle.records.specs.{declared.settings.Settings.Settings, declared.state.State.State, Lent.row_places}
-use Rattle.refusals.specs.{declared.verdict.Verdict.TheVariants.Fine, Rooms.room_lines, Rooms.state_lines, Settings.setting_lines, Laws.Lines.and_true}
+use Rattle.refusals.specs.{Rooms.room_lines, Rooms.state_lines, Settings.setting_lines, Laws.Lines.and_true}
 use Rattle.refusals.specs.{Laws.Lines.first_holds, Laws.Lines.both_fine, Laws.Lines.below_fine}
 use Rattle.engine.specs.{Books.emptied}
 use Rattle.images.specs.{Layout.dump_bytes}
@@ -14,7 +14,7 @@ pub record PartFine (s : Settings) (t : State) (rows : List ℕ) : Type 0 where
   pub depth : s.depth ≤ most_rows
   pub held : t.counts.rows_held ≤ row_places s.slots rows
 
-pub part_fine : (s : Settings) (t : State) (rows : List ℕ) → part_judged s t rows ≡ Fine → PartFine s t rows
+pub part_fine : (s : Settings) (t : State) (rows : List ℕ) → part_judged s t rows ≡ Ok tt → PartFine s t rows
 unfolding part_judged part_lines setting_lines dump_state_lines state_lines emptied
 part_fine s t rows h =
     let room = both_fine (room_lines s rows) _ h in
@@ -30,7 +30,7 @@ part_fine s t rows h =
     }
 
 -- A dump that refuses nothing refuses nothing of a part ..
-pub fine_part : (s : Settings) (t : State) (rows area : List ℕ) → dump_judged s t rows area ≡ Fine → part_judged s t rows ≡ Fine
+pub fine_part : (s : Settings) (t : State) (rows area : List ℕ) → dump_judged s t rows area ≡ Ok tt → part_judged s t rows ≡ Ok tt
 unfolding dump_judged dump_lines part_judged part_lines
 fine_part s t rows area h =
     let room = both_fine (room_lines s rows) _ h in
@@ -43,7 +43,7 @@ pub record DumpFine (s : Settings) (t : State) (rows area : List ℕ) : Type 0 w
   pub held : t.counts.rows_held ≤ row_places s.slots rows
   pub place : dump_bytes s.slots s.depth ≤ length area
 
-pub dump_fine : (s : Settings) (t : State) (rows area : List ℕ) → dump_judged s t rows area ≡ Fine → DumpFine s t rows area
+pub dump_fine : (s : Settings) (t : State) (rows area : List ℕ) → dump_judged s t rows area ≡ Ok tt → DumpFine s t rows area
 unfolding dump_judged dump_lines area_lines
 dump_fine s t rows area h =
     let part = part_fine s t rows (fine_part s t rows area h) in

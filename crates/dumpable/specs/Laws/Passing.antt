@@ -1,16 +1,15 @@
 -- Words of settings and state of which a dump refuses nothing, seen in the words as they are. It is enough, and seldom more than is needed: a
 -- level that is not given has to be finite too.
-use Rattle.std.specs.Prelude.{ℕ, zero, suc, ◌+◌, ◌*◌, ◌/◌, ◌%◌, ◌^◌, ◌≤◌, ◌<◌, ◌≡◌, refl, Bool, true, false, cond, ◌&&◌, List, [], leb, ltb, eqb, length}
+use Rattle.std.specs.Prelude.{ℕ, zero, suc, ◌+◌, ◌*◌, ◌/◌, ◌%◌, ◌^◌, ◌≤◌, ◌<◌, ◌≡◌, refl, Bool, true, false, cond, ◌&&◌, List, [], leb, ltb, eqb, length, None, Ok, Some}
 use Rattle.words.specs.Prelude.{sym, ap, ◌∙◌, true≢false}
 use Rattle.words.specs.Prelude.{le-div_iff_mul-le, mul_assoc, mul_comm, arith, lt-ltb, le-ltb, le-leb, ne_eqb, leb-true, ltb-true}
 use Rattle.words.specs.{Limits.setting_words, Limits.state_words, Limits.row_words, Limits.most_slots, Limits.most_rows, Limits.most_reach, Limits.most_count}
 use Rattle.words.specs.{Words.word}
 use Rattle.floats.specs.{Floats.finite, Floats.float_of}
-use Rattle.execution.specs.{declared.optional.Optional.TheVariants.Absent, declared.optional.Optional.TheVariants.Of}
 use Rattle.records.specs.{Lent.row_places, Lent.point_places, Lent.trade_places, Settings.level_of, Settings.sizing_of, Settings.slippage_of, Settings.order_type_of}
 use Rattle.records.specs.{Settings.risk_of, Settings.terms_of, Settings.entries_of, Settings.settings_of, StateWords.entered_of, StateWords.counts_of}
 use Rattle.records.specs.{StateWords.position_of, StateWords.state_of}
-use Rattle.refusals.specs.{declared.verdict.Verdict.TheVariants.Fine, Lines.judged, Rooms.room_lines, Rooms.entry_below, Rooms.state_lines, Settings.lookback}
+use Rattle.refusals.specs.{Lines.judged, Rooms.room_lines, Rooms.entry_below, Rooms.state_lines, Settings.lookback}
 use Rattle.refusals.specs.{Settings.sizing_known, Settings.sizing_value, Settings.slippage_known, Settings.slippage_value, Settings.level_fine, Settings.stop_there}
 use Rattle.refusals.specs.{Settings.order_type_known, Settings.lot_fine, Settings.sizing_lines, Settings.slippage_lines, Settings.risk_lines, Settings.term_lines}
 use Rattle.refusals.specs.{Settings.entry_lines, Settings.setting_lines, Laws.Lines.and_true, Laws.Lines.below_fine, Laws.Descent.no_line, Laws.Descent.fine_line}
@@ -151,12 +150,12 @@ level_fine_lem : (bits w : ℕ) → finite (float_of w) ≡ true → level_fine 
 unfolding level_of
 level_fine_lem bits w f = go (eqb (bits % 2) 1)
   where
-    go : (b : Bool) → level_fine (cond b (Of (float_of w)) Absent) ≡ true
+    go : (b : Bool) → level_fine (cond b (Some (float_of w)) None) ≡ true
     go true = f
     go false = refl
 
 settings_fine : (ws : List ℕ) → kinds_pass ws ≡ true → costs_pass ws ≡ true → levels_pass ws ≡ true → entries_pass ws ≡ true
-    → judged (setting_lines (settings_of ws)) ≡ Fine
+    → judged (setting_lines (settings_of ws)) ≡ Ok tt
 unfolding costs_pass levels_pass entries_pass settings_of terms_of risk_of entries_of setting_lines term_lines sizing_lines slippage_lines risk_lines entry_lines
 settings_fine ws k c l e =
     let kinds = kinds_pass_lem ws k in
@@ -200,7 +199,7 @@ settings_fine ws k c l e =
 
 -- the state: the room has places for the rows held
 state_fine : (settings state rows : List ℕ) → counts_pass state ≡ true → word state 1 ≤ row_places (word settings 0) rows
-    → judged (dump_state_lines (settings_of settings) (state_of state) rows) ≡ Fine
+    → judged (dump_state_lines (settings_of settings) (state_of state) rows) ≡ Ok tt
 unfolding counts_pass dump_state_lines state_lines emptied settings_of state_of counts_of position_of
 state_fine settings state rows h held =
     let entry = and_true _ _ h in
@@ -222,7 +221,7 @@ state_fine settings state rows h held =
 pub record WordsFine (settings state rows area : List ℕ) : Type 0 where
   pub long : setting_words ≤ length settings
   pub full : state_words ≤ length state
-  pub fine : dump_judged (settings_of settings) (state_of state) rows area ≡ Fine
+  pub fine : dump_judged (settings_of settings) (state_of state) rows area ≡ Ok tt
 
 -- WHERE THE WORDS PASS nothing is refused
 pub words_fine : (settings state rows area : List ℕ) → words_pass settings state (length rows) (length area) ≡ true → WordsFine settings state rows area

@@ -1,44 +1,43 @@
 -- A call over many bars is a step for each: its first bar, one bar more, and what is judged once.
-use Rattle.std.specs.Prelude.{ℕ, zero, suc, ◌+◌, ◌-◌, ◌*◌, ◌/◌, ◌%◌, ◌<◌, ◌≤◌, ◌≡◌, refl, Bool, true, false, List, [], ◌∷◌, ◌++◌, ltb, length, take, drop}
+use Rattle.std.specs.Prelude.{ℕ, zero, suc, ◌+◌, ◌-◌, ◌*◌, ◌/◌, ◌%◌, ◌<◌, ◌≤◌, ◌≡◌, refl, Bool, true, false, List, [], ◌∷◌, ◌++◌, ltb, length, take, drop, Err, Ok, Result}
 use Rattle.words.specs.Prelude.{sym, ap, ◌∙◌, zero-div}
 use Rattle.words.specs.Prelude.{le-div_iff_mul-le, mod-eq_of_lt, arith, eqb-true, eqb-false, ltb-true, ltb-false, drop-drop}
 use Rattle.words.specs.Prelude.{length-take-le, take_all}
 use Rattle.words.specs.{Limits.bar_words, declared.refusal.Refusal.Refusal}
 use Rattle.records.specs.{declared.settings.Settings.Settings, declared.state.State.State, Lent.Lists, Lent.Rooms, Lent.rooms}
-use Rattle.refusals.specs.{declared.verdict.Verdict.Verdict, declared.verdict.Verdict.TheVariants.Fine, declared.verdict.Verdict.TheVariants.Bad}
 use Rattle.refusals.specs.{Day.whole_bars, Day.whole_for, Day.day_lines, Day.next_lines, Judgement.step_judged, Laws.Lines.below_fine, Laws.Lines.below_bad}
 use Rattle.refusals.specs.{Laws.Steady.Steady, Laws.Steady.day_bad, Laws.Steady.day_ragged, Laws.Steady.next_judged, Lines.Line, Lines.judged, Lists.list_lines}
-use Rattle.engine.specs.{declared.answer.Answer.Answer, declared.answer.Answer.TheVariants.Refused, declared.answer.Answer.TheVariants.Done}
 use Rattle.engine.specs.{Day.Underway, Day.in_records, Day.bars_in, Day.bars_for, Day.no_bars, Day.day_of, Day.first_refused, Day.run_with, Day.unlisted_by}
 use Rattle.engine.specs.{Run.Run, Run.one_more, Run.goes_on, Run.run_over, Step.With, Step.Is, Step.answered, Step.stepped, Step.step_verdict}
 use Rattle.engine.specs.{Step.step_answer, Laws.Runs.run_none, Laws.Runs.run_stops, Laws.Underway.step_steady, Laws.Verdict.handed_bad}
 use Rattle.std.proofs.Math.Nat.{zero-mod, div_self}
 use Rattle.refusals.specs.{declared.day.Span.Span, declared.day.Span.TheVariants.One, declared.day.Span.TheVariants.Many}
+use Rattle.refusals.specs.{Lines.Verdict}
 
 -- ---- a bar
 
 -- a step that was taken is the one of its phases, and all that was looked at once is as it was
-by_answer : (v : Verdict) (t : State) (m : Rooms) (done : With State) (u : State) (ws es ts : List ℕ) → Is Answer (answered v t m done) (Done u) ws es ts
+by_answer : (v : Verdict) (t : State) (m : Rooms) (done : With State) (u : State) (ws es ts : List ℕ) → Is (Result State (Refusal × State)) (answered v t m done) (Ok u) ws es ts
     → (u ≡ done.result) × (rooms ws es ts ≡ done.rooms)
 unfolding answered
-by_answer (Bad why) t m done u ws es ts d = absurd (let z : ◌≡◌ {A = ℕ} 0 1 = cc d.result in omega arith)
-by_answer Fine t m done u ws es ts d = (let same : Done u ≡ Done done.result = d.result in cc, rw (d.rows, d.equity, d.trades))
+by_answer (Err why) t m done u ws es ts d = absurd (let z : ◌≡◌ {A = ℕ} 0 1 = cc d.result in omega arith)
+by_answer (Ok tt) t m done u ws es ts d = (let same : Ok u ≡ Ok done.result = d.result in cc, rw (d.rows, d.equity, d.trades))
 
 module _ (s : Settings) (ls : Lists) (t : State) (m : Rooms) (bar : List ℕ) {u : State} {ws es ts : List ℕ} where
-  pub stays_underway : Is Answer (step_answer s t bar m ls) (Done u) ws es ts → Underway s t m ls → Underway s u (rooms ws es ts) ls
+  pub stays_underway : Is (Result State (Refusal × State)) (step_answer s t bar m ls) (Ok u) ws es ts → Underway s t m ls → Underway s u (rooms ws es ts) ls
   unfolding step_answer
   stays_underway d c =
       let e = by_answer (step_verdict s t bar m ls) t m (stepped s t bar m ls) u ws es ts d in
       rw (e.0, e.1) (record { steady = step_steady s t bar m ls c.steady; lists = c.lists })
 
   -- the run that begins with it
-  pub run_goes : (bars : List (List ℕ)) → Is Answer (step_answer s t bar m ls) (Done u) ws es ts
+  pub run_goes : (bars : List (List ℕ)) → Is (Result State (Refusal × State)) (step_answer s t bar m ls) (Ok u) ws es ts
       → run_over s ls t m (bar ∷ bars) ≡ one_more (run_over s ls u (rooms ws es ts) bars)
   unfolding run_over goes_on
   run_goes bars d = rw (← d.result, d.rows, d.equity, d.trades)
 
-  pub run_refused : (bars : List (List ℕ)) {why : Refusal} → Is Answer (step_answer s t bar m ls) (Refused why u) ws es ts
-      → run_over s ls t m (bar ∷ bars) ≡ record { done = 0; verdict = Bad why; state = u; rooms = rooms ws es ts }
+  pub run_refused : (bars : List (List ℕ)) {why : Refusal} → Is (Result State (Refusal × State)) (step_answer s t bar m ls) (Err (why, u)) ws es ts
+      → run_over s ls t m (bar ∷ bars) ≡ record { done = 0; verdict = Err why; state = u; rooms = rooms ws es ts }
   unfolding run_over goes_on
   run_refused bars d = rw (← d.result, d.rows, d.equity, d.trades)
 
@@ -68,7 +67,7 @@ module _ (s : Settings) (ls : Lists) (t₀ : State) (m₀ : Rooms) (bars : List 
 
   -- all are done
   pub after_all : (done : ℕ) {t : State} {m : Rooms} → count ≤ done → After done t m
-      → run_over s ls t₀ m₀ (in_records count w bars) ≡ record { done = done; verdict = Fine; state = t; rooms = m }
+      → run_over s ls t₀ m₀ (in_records count w bars) ≡ record { done = done; verdict = Ok tt; state = t; rooms = m }
   unfolding in_records
   after_all done h after =
       let none : count - done ≡ 0 = omega arith in
@@ -87,13 +86,13 @@ module _ (s : Settings) (ls : Lists) (t₀ : State) (m₀ : Rooms) (bars : List 
       records_next (count - done) w (drop (done * w) bars) (omega arith) ∙ rw (drop-drop w (done * w) bars, left, on)
 
   module _ (done : ℕ) (more : done < count) (t : State) (m : Rooms) (after : After done t m) where
-    pub after_more : {u : State} {ws es ts : List ℕ} → Is Answer (step_answer s t (next_bar done) m ls) (Done u) ws es ts → After (done + 1) u (rooms ws es ts)
+    pub after_more : {u : State} {ws es ts : List ℕ} → Is (Result State (Refusal × State)) (step_answer s t (next_bar done) m ls) (Ok u) ws es ts → After (done + 1) u (rooms ws es ts)
     after_more {u} {ws} {es} {ts} d =
         let more-by-one : (n : ℕ) → n + 1 + done ≡ n + (done + 1) = λ n. omega arith in
         after ∙ rw (next done more, run_goes s ls t m (next_bar done) _ d, more-by-one)
 
-    pub after_refused : {why : Refusal} {u : State} {ws es ts : List ℕ} → Is Answer (step_answer s t (next_bar done) m ls) (Refused why u) ws es ts
-        → run_over s ls t₀ m₀ (in_records count w bars) ≡ record { done = done; verdict = Bad why; state = u; rooms = rooms ws es ts }
+    pub after_refused : {why : Refusal} {u : State} {ws es ts : List ℕ} → Is (Result State (Refusal × State)) (step_answer s t (next_bar done) m ls) (Err (why, u)) ws es ts
+        → run_over s ls t₀ m₀ (in_records count w bars) ≡ record { done = done; verdict = Err why; state = u; rooms = rooms ws es ts }
     after_refused d =
         let zero_more : 0 + done ≡ done = omega arith in
         after ∙ rw (next done more, run_refused s ls t m (next_bar done) _ d, zero_more)
@@ -150,7 +149,7 @@ no_bars_lem Many K bars h = bars_none K bars (eqb-true (length bars) 0 h)
 
 module _ (span : Span) (s : Settings) (t : State) (bars : List ℕ) (m : Rooms) (ls : Lists) where
   -- no bars
-  pub day_none : no_bars span bars ≡ true → day_of span s t bars m ls ≡ record { done = 0; verdict = Fine; state = t; rooms = m }
+  pub day_none : no_bars span bars ≡ true → day_of span s t bars m ls ≡ record { done = 0; verdict = Ok tt; state = t; rooms = m }
   unfolding day_of
   day_none none = rw (no_bars_lem span s.slots bars none) (run_none s ls t m)
 
@@ -162,14 +161,14 @@ module _ (span : Span) (s : Settings) (t : State) (bars : List ℕ) (m : Rooms) 
 
   module _ (some : no_bars span bars ≡ false) where
     -- whole bars whose first is refused
-    first_bad : whole_for span s.slots bars ≡ true → (why : Refusal) → step_judged s t (take (bar_words s.slots) bars) m ls ≡ Bad why
+    first_bad : whole_for span s.slots bars ≡ true → (why : Refusal) → step_judged s t (take (bar_words s.slots) bars) m ls ≡ Err why
         → day_of span s t bars m ls ≡ run_with (first_refused t why) m
     first_bad h why bad =
         day_whole h ∙ rw (records_next _ (bar_words s.slots) bars (some_bars s.slots bars (whole_one s.slots bars span some h)))
         (run_stops s ls t m _ _ why (handed_bad s t _ m ls why bad))
 
     -- WHAT IS LOOKED AT ONCE is what the first bar would be refused with
-    pub day_stops : (why : Refusal) → judged (day_lines span s t bars m) ≡ Bad why → day_of span s t bars m ls ≡ run_with (first_refused t why) m
+    pub day_stops : (why : Refusal) → judged (day_lines span s t bars m) ≡ Err why → day_of span s t bars m ls ≡ run_with (first_refused t why) m
     day_stops why bad = go (whole_for span s.slots bars) refl
       where
         go : (b : Bool) → whole_for span s.slots bars ≡ b → day_of span s t bars m ls ≡ run_with (first_refused t why) m
@@ -180,7 +179,7 @@ module _ (span : Span) (s : Settings) (t : State) (bars : List ℕ) (m : Rooms) 
 
     -- and so are the lists, after the bar itself
     pub day_unlisted : (fifteen : Refusal) → Steady s t m → whole_for span s.slots bars ≡ true
-        → judged (list_lines s.slots s.depth ls) ≡ Bad fifteen
+        → judged (list_lines s.slots s.depth ls) ≡ Err fifteen
         → day_of span s t bars m ls
         ≡ run_with (unlisted_by (judged (next_lines s.slots t.counts (take (bar_words s.slots) bars) m.equity m.trades)) t fifteen) m
     unfolding unlisted_by
@@ -196,23 +195,23 @@ module _ (span : Span) (s : Settings) (t : State) (bars : List ℕ) (m : Rooms) 
         judge = next_judged s t first m ls steady (length-take-le _ bars (whole_one s.slots bars span some h))
 
         go : (v : Verdict) → judged own ≡ v → day_of span s t bars m ls ≡ run_with (unlisted_by v t fifteen) m
-        go (Bad why) e = first_bad h why (judge ∙ below_bad own _ why e)
-        go Fine e = first_bad h fifteen (judge ∙ (below_fine own _ e ∙ bad))
+        go (Err why) e = first_bad h why (judge ∙ below_bad own _ why e)
+        go (Ok tt) e = first_bad h fifteen (judge ∙ (below_fine own _ e ∙ bad))
 
 -- A CALL OF ONE BAR IS A STEP: what it comes to is the step's answer.
-unfoldable pub answer_in : Verdict → State → Answer
-answer_in (Bad why) t = Refused why t
-answer_in Fine t = Done t
+unfoldable pub answer_in : Verdict → State → Result State (Refusal × State)
+answer_in (Err why) t = Err (why, t)
+answer_in (Ok tt) t = Ok t
 
 -- a run of one bar, as an answer
-abbrev IsRun : With Answer → Run → Type 0
-IsRun d r = Is Answer d (answer_in r.verdict r.state) r.rooms.rows r.rooms.equity r.rooms.trades
+abbrev IsRun : With (Result State (Refusal × State)) → Run → Type 0
+IsRun d r = Is (Result State (Refusal × State)) d (answer_in r.verdict r.state) r.rooms.rows r.rooms.equity r.rooms.trades
 
-one_answer : (d : With Answer) (later : State → Run) → ((u : State) → later u ≡ record { done = 0; verdict = Fine; state = u; rooms = d.rooms })
-    → (a : Answer) → d.result ≡ a → IsRun d (goes_on a d.rooms later)
+one_answer : (d : With (Result State (Refusal × State))) (later : State → Run) → ((u : State) → later u ≡ record { done = 0; verdict = Ok tt; state = u; rooms = d.rooms })
+    → (a : Result State (Refusal × State)) → d.result ≡ a → IsRun d (goes_on a d.rooms later)
 unfolding goes_on answer_in
-one_answer d later none (Refused why given) f = record { result = sym f; rows = refl; equity = refl; trades = refl }
-one_answer d later none (Done u) f = rw (none u) (record { result = sym f; rows = refl; equity = refl; trades = refl })
+one_answer d later none (Err (why, given)) f = record { result = sym f; rows = refl; equity = refl; trades = refl }
+one_answer d later none (Ok u) f = rw (none u) (record { result = sym f; rows = refl; equity = refl; trades = refl })
 
 pub day_one : (s : Settings) (t : State) (bar : List ℕ) (m : Rooms) (ls : Lists) (r : Run) → day_of One s t bar m ls ≡ r → IsRun (step_answer s t bar m ls) r
 unfolding day_of bars_for run_over

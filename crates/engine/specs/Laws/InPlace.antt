@@ -1,15 +1,14 @@
 -- Rows that do not move are read, and added to, as if they did.
-use Rattle.std.specs.Prelude.{ℕ, ◌/◌, ◌≡◌, refl, Bool, true, false, cond, List, eqb, Float, length}
+use Rattle.std.specs.Prelude.{ℕ, ◌/◌, ◌≡◌, refl, Bool, true, false, cond, List, eqb, Float, length, Err, Ok, Result}
 use Rattle.words.specs.Prelude.{ap, ◌∙◌, arith, eqb-true}
 use Rattle.rows.specs.{declared.ring.Ring.Ring, History.history_of, History.width, History.last_rows, Laws.Ring.RingFine, Laws.Ring.ring_adds}
 use Rattle.rows.specs.{Laws.Ring.ring_none, Laws.Ring.held_turned, Laws.Turned.turned_none, Ring.ring_of, Ring.turned, Room.with_row, Room.held_with}
 use Rattle.rules.specs.{declared.position.PositionState.PositionState}
 use Rattle.portfolio.specs.{declared.Candle.Candle}
 use Rattle.execution.specs.{RingEntry.entry_turned}
-use Rattle.steps.specs.{declared.wellformed.Formed.Formed, declared.wellformed.Formed.TheVariants.Well, declared.wellformed.Formed.TheVariants.Bad}
 use Rattle.steps.specs.{declared.machine.Ran.Ran, AnyList.ring_any, WellFormed.formed}
 use Rattle.records.specs.{declared.settings.Settings.Settings, declared.state.Order.Order, declared.state.Position.Position, Lent.Lists}
-use Rattle.refusals.specs.{declared.verdict.Verdict.TheVariants.Fine, Laws.Lines.first_holds, Lines.judged, Lists.is_well, Lists.list_lines}
+use Rattle.refusals.specs.{Laws.Lines.first_holds, Lines.judged, Lists.is_well, Lists.list_lines}
 use Rattle.engine.specs.{declared.account.Due.Due, declared.account.Due.TheVariants.Waits, declared.account.Due.TheVariants.Enters}
 use Rattle.engine.specs.{declared.account.Due.TheVariants.Leaves, declared.record.Place.Place, Account.entry_filled, Account.due_of, Account.done_of}
 use Rattle.engine.specs.{Account.filled, Decide.list_says, Decide.answers_of, Decide.state_at, Decide.decided, InPlace.kept_ring, InPlace.kept_room}
@@ -19,18 +18,18 @@ use Rattle.refusals.specs.{declared.day.Span.Span, declared.day.Span.TheVariants
 
 -- ---- lists
 
-well : (f : Formed) → is_well f ≡ true → f ≡ Well
-well Well e = refl
-well (Bad p) e = absurd (let z : ◌≡◌ {A = ℕ} 0 1 = cc in omega arith)
+well : (f : Result (Unit {0}) ℕ) → is_well f ≡ true → f ≡ Ok tt
+well (Ok tt) e = refl
+well (Err p) e = absurd (let z : ◌≡◌ {A = ℕ} 0 1 = cc in omega arith)
 
 -- the four lists of a call, each well formed
 record AllWell (K D : ℕ) (ls : Lists) : Type 0 where
-  entry : formed K D ls.entry ≡ Well
-  «exit» : formed K D ls.«exit» ≡ Well
-  short_entry : formed K D ls.short_entry ≡ Well
-  short_exit : formed K D ls.short_exit ≡ Well
+  entry : formed K D ls.entry ≡ Ok tt
+  «exit» : formed K D ls.«exit» ≡ Ok tt
+  short_entry : formed K D ls.short_entry ≡ Ok tt
+  short_exit : formed K D ls.short_exit ≡ Ok tt
 
-all_well : (K D : ℕ) (ls : Lists) → judged (list_lines K D ls) ≡ Fine → AllWell K D ls
+all_well : (K D : ℕ) (ls : Lists) → judged (list_lines K D ls) ≡ Ok tt → AllWell K D ls
 unfolding list_lines
 all_well K D ls h =
     let a = first_holds _ _ h in
@@ -48,12 +47,12 @@ filled-turned K start ws (Waits o) s p k n = refl
 filled-turned K start ws (Enters side kind price) s p k n = rw (entry_turned K start ws)
 filled-turned K start ws Leaves s p k n = refl
 
-says_turned : (K D start : ℕ) (ws list : List ℕ) (st : PositionState) → formed K D list ≡ Well
+says_turned : (K D start : ℕ) (ws list : List ℕ) (st : PositionState) → formed K D list ≡ Ok tt
     → list_says (ring_of K start ws) st list ≡ list_says (history_of K (last_rows K D (turned (width K) start ws))) st list
 unfolding list_says
 says_turned K D start ws list st w = ap (λ (r : Ran). r.answer) (ring_any K D start ws list st w)
 
-module _ (s : Settings) (ls : Lists) (fine : judged (list_lines s.slots s.depth ls) ≡ Fine) where
+module _ (s : Settings) (ls : Lists) (fine : judged (list_lines s.slots s.depth ls) ≡ Ok tt) where
   answers_turned : (start : ℕ) (ws : List ℕ) (st : PositionState)
       → answers_of (ring_of s.slots start (read_from s.slots s.depth start ws)) st ls
       ≡ answers_of (history_of s.slots (last_rows s.slots s.depth (turned (width s.slots) start ws))) st ls
@@ -94,7 +93,7 @@ module _ (s : Settings) (rows : List ℕ) (ring : Ring) (ok : RingFine (length r
   fill_in_place o p k n = rw held_in_place (filled-turned s.slots ring.start (held_rows s.slots ring.held rows) (due_of o k) s p k n)
 
   -- WHAT IS DECIDED over them
-  pub decide_in_place : (ls : Lists) → judged (list_lines s.slots s.depth ls) ≡ Fine → (o : Order) (p : Position) (n : ℕ) (close : Float)
+  pub decide_in_place : (ls : Lists) → judged (list_lines s.slots s.depth ls) ≡ Ok tt → (o : Order) (p : Position) (n : ℕ) (close : Float)
       → decided_from s o p n close ring.start (held_rows s.slots ring.held rows) ls
       ≡ decided s o p n close (held_rows s.slots ring.held (turned (width s.slots) ring.start rows)) ls
   unfolding decided_from decided

@@ -1,15 +1,15 @@
 -- What is written into a room stays within it: its length is kept, and it holds no more than it has places for.
-use Rattle.std.specs.Prelude.{ℕ, zero, suc, ◌+◌, ◌-◌, ◌*◌, ◌/◌, ◌≤◌, ◌<◌, ◌≡◌, refl, Bool, true, false, cond, List, [], ◌∷◌, ◌++◌, length, take, drop, ltb}
+use Rattle.std.specs.Prelude.{ℕ, zero, suc, ◌+◌, ◌-◌, ◌*◌, ◌/◌, ◌≤◌, ◌<◌, ◌≡◌, refl, Bool, true, false, cond, List, [], ◌∷◌, ◌++◌, length, take, drop, ltb, None, Option, Some}
 use Rattle.std.specs.Prelude.{eqb}
 use Rattle.words.specs.Prelude.{ap, ◌∙◌, le-div_iff_mul-le}
 use Rattle.words.specs.Prelude.{suc-mul, le_refl, mul-le-mul_right, arith, ltb-true, eqb-false, length-append, length-drop, length-take-le}
 use Rattle.words.specs.{Words.overwrite, Laws.Overwrite.overwrite-length}
 use Rattle.rows.specs.{History.width, Room.places_for, Room.with_row, Room.held_with}
-use Rattle.execution.specs.{declared.fills.Exit.Exit, declared.fills.Exit.TheVariants.NoExit, declared.fills.Exit.TheVariants.Exited}
 use Rattle.portfolio.specs.{declared.Candle.Candle, Trade.words_of_trade}
 use Rattle.records.specs.{declared.state.Position.Position, Lent.point_places, Lent.trade_places}
 use Rattle.engine.specs.{Books.Held, Books.words_of_point, Books.point_of, Books.booked, Books.marked, Record.listed, Record.row_word, Record.row_of}
 use Rattle.words.specs.Limits as Limits
+use Rattle.portfolio.specs.{declared.Closed.Closed}
 
 -- ---- lengths
 
@@ -80,10 +80,10 @@ row_fits K room held bar =
 abbrev Fits : ℕ → Held → List ℕ → Type 0
 Fits w h room = (length h.room ≡ length room) × (h.count ≤ length room / w)
 
-pub booked_fits : (room : List ℕ) (n : ℕ) (x : Exit) → n ≤ trade_places room → Fits Limits.trade_words (booked room n x) room
+pub booked_fits : (room : List ℕ) (n : ℕ) (x : Option Closed) → n ≤ trade_places room → Fits Limits.trade_words (booked room n x) room
 unfolding booked
-booked_fits room n NoExit h = (refl, h)
-booked_fits room n (Exited c) h = go (ltb n (trade_places room)) refl
+booked_fits room n None h = (refl, h)
+booked_fits room n (Some c) h = go (ltb n (trade_places room)) refl
   where
     go : (b : Bool) → ltb n (trade_places room) ≡ b
         → Fits Limits.trade_words
@@ -92,7 +92,7 @@ booked_fits room n (Exited c) h = go (ltb n (trade_places room)) refl
     go false e = (refl, h)
 
 -- and another after it
-pub twice_booked_fits : (room : List ℕ) (n : ℕ) (x y : Exit) → n ≤ trade_places room
+pub twice_booked_fits : (room : List ℕ) (n : ℕ) (x y : Option Closed) → n ≤ trade_places room
     → Fits Limits.trade_words (booked (booked room n x).room (booked room n x).count y) room
 twice_booked_fits room n x y h =
     let a = booked_fits room n x h in

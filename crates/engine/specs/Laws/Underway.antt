@@ -1,12 +1,10 @@
 -- What a call over many bars looks at once stays fine from bar to bar.
-use Rattle.std.specs.Prelude.{ℕ, ◌+◌, ◌≤◌, ◌≡◌, refl, Bool, true, ◌&&◌, List, leb}
+use Rattle.std.specs.Prelude.{ℕ, ◌+◌, ◌≤◌, ◌≡◌, refl, Bool, true, ◌&&◌, List, leb, None, Option, Some}
 use Rattle.words.specs.Prelude.{arith, leb-true, le-leb, ltb-true, lt-ltb}
 use Rattle.rows.specs.{History.History}
-use Rattle.rules.specs.{declared.position.Entered.Entered as EntryBar, declared.position.Entered.TheVariants.Never, declared.position.Entered.TheVariants.Bar}
 use Rattle.portfolio.specs.{declared.Candle.Candle}
 use Rattle.execution.specs.{declared.fills.Entry.Entry, declared.fills.Entry.TheVariants.NoEntry, declared.fills.Entry.TheVariants.TooLarge}
-use Rattle.execution.specs.{declared.fills.Entry.TheVariants.Entered, declared.fills.Exit.Exit, declared.fills.Exit.TheVariants.NoExit}
-use Rattle.execution.specs.{declared.fills.Exit.TheVariants.Exited}
+use Rattle.execution.specs.{declared.fills.Entry.TheVariants.Entered}
 use Rattle.records.specs.{declared.settings.Settings.Settings, declared.state.Position.Position, declared.state.State.State, Bar.candle_of, Lent.Lists}
 use Rattle.records.specs.{Lent.Rooms, Lent.row_places, Lent.point_places, Lent.trade_places}
 use Rattle.refusals.specs.{Laws.Lines.and_true, Laws.Steady.Steady, Rooms.held_fine, Rooms.entry_below, Rooms.room_lines}
@@ -14,18 +12,19 @@ use Rattle.engine.specs.{declared.account.Due.Due, declared.account.Due.TheVaria
 use Rattle.engine.specs.{declared.account.Due.TheVariants.Leaves, declared.account.Filled.Filled, declared.account.Left.Left, Account.leaving}
 use Rattle.engine.specs.{Account.entering, Account.entry_filled, Account.facing, Account.exit_filled, Account.done_of, Account.filled, Account.intrabar}
 use Rattle.engine.specs.{Account.charged, Laws.Lengths.row_fits, Laws.Lengths.twice_booked_fits, Laws.Lengths.marked_fits, Step.fill_of, Step.stepped}
+use Rattle.portfolio.specs.{declared.Closed.Closed}
 
 -- ---- the entry bar
 
 -- below the bars seen, it is below one more
-below_more : (e : EntryBar) (n : ℕ) → entry_below e n ≡ true → entry_below e (n + 1) ≡ true
-below_more Never n h = refl
-below_more (Bar b) n h = lt-ltb b (n + 1) (omega (arith, ltb-true b n h))
+below_more : (e : Option ℕ) (n : ℕ) → entry_below e n ≡ true → entry_below e (n + 1) ≡ true
+below_more None n h = refl
+below_more (Some b) n h = lt-ltb b (n + 1) (omega (arith, ltb-true b n h))
 
-leaving_below : (p : Position) (x : Exit) (n : ℕ) → entry_below p.entered n ≡ true → entry_below (leaving p x).entered n ≡ true
+leaving_below : (p : Position) (x : Option Closed) (n : ℕ) → entry_below p.entered n ≡ true → entry_below (leaving p x).entered n ≡ true
 unfolding leaving
-leaving_below p NoExit n h = h
-leaving_below p (Exited c) n h = refl
+leaving_below p None n h = h
+leaving_below p (Some c) n h = refl
 
 entering_below : (p : Position) (e : Entry) (n : ℕ) → entry_below p.entered n ≡ true → entry_below (entering p e n).entered (n + 1) ≡ true
 unfolding entering

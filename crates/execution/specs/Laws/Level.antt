@@ -1,21 +1,20 @@
 -- What a client may count on of an entry away from the market: it fills only on a bar that reaches its level, and its raw price, before slippage, is no
 -- worse than a limit and no better than a stop. Assumes nothing.
-use Rattle.std.specs.Prelude.{◌≡◌, refl, Bool, true, false, cond, Float}
+use Rattle.std.specs.Prelude.{◌≡◌, refl, Bool, true, false, cond, Float, None, Option, Some}
 use Rattle.floats.specs.{Floats.◌≼◌, Floats.min, Floats.max, Laws.Order.numbers, Laws.Order.itself, Laws.Order.min_second, Laws.Order.max_second}
 use Rattle.portfolio.specs.{declared.Candle.Candle}
-use Rattle.execution.specs.{declared.optional.Optional.Optional, declared.optional.Optional.TheVariants.Absent}
-use Rattle.execution.specs.{declared.optional.Optional.TheVariants.Of, declared.level.Side.TheVariants.Long, declared.level.Side.TheVariants.Short}
+use Rattle.execution.specs.{declared.level.Side.TheVariants.Long, declared.level.Side.TheVariants.Short}
 use Rattle.execution.specs.{declared.level.OrderKind.TheVariants.Limit, declared.level.OrderKind.TheVariants.Stop}
 use Rattle.execution.specs.{declared.level.OrderKind.TheVariants.StopLimit, Level.reached_below, Level.reached_above, Level.no_dearer_than}
 use Rattle.execution.specs.{Level.no_cheaper_than, Level.long_fill, Level.short_fill, Level.level_fill}
 
 -- so of the price, where there is a fill
-unfoldable pub WhereFilled : (Float → Type 0) → Optional → Type 0
-WhereFilled P Absent = Unit {0}
-WhereFilled P (Of price) = P price
+unfoldable pub WhereFilled : (Float → Type 0) → Option Float → Type 0
+WhereFilled P None = Unit {0}
+WhereFilled P (Some price) = P price
 
 -- a price that is given on a test alone
-on_test : (P : Float → Type 0) (b : Bool) (price : Float) → (b ≡ true → P price) → WhereFilled P (cond b (Of price) Absent)
+on_test : (P : Float → Type 0) (b : Bool) (price : Float) → (b ≡ true → P price) → WhereFilled P (cond b (Some price) None)
 unfolding WhereFilled
 on_test P true price h = h refl
 on_test P false price h = tt
@@ -59,31 +58,31 @@ module _ (k : Candle) (level : Float) where
 
 -- held to a limit: what is so of the stop's price is so of the fill, and the fill is no worse than the limit
 held_to : (S : Type 0) (fine : Float → Bool) (price limit : Float) (reached : Bool) → S → (reached ≡ true → fine limit ≡ true)
-    → WhereFilled (λ x. S × (fine x ≡ true)) (cond (fine price) (Of price) (cond reached (Of limit) Absent))
+    → WhereFilled (λ x. S × (fine x ≡ true)) (cond (fine price) (Some price) (cond reached (Some limit) None))
 unfolding WhereFilled
 held_to S fine price limit reached h ok = go (fine price) reached refl refl
   where
-    go : (a b : Bool) → fine price ≡ a → reached ≡ b → WhereFilled (λ x. S × (fine x ≡ true)) (cond a (Of price) (cond b (Of limit) Absent))
+    go : (a b : Bool) → fine price ≡ a → reached ≡ b → WhereFilled (λ x. S × (fine x ≡ true)) (cond a (Some price) (cond b (Some limit) None))
     go true b e f = (h, e)
     go false true e f = (h, ok f)
     go false false e f = tt
 
 module _ (k : Candle) (limit : Float) (S : Type 0) where
-  within : (o : Optional) → WhereFilled (λ price. S) o → WhereFilled (λ price. S × (price ≼ limit ≡ true)) (no_dearer_than limit o k)
+  within : (o : Option Float) → WhereFilled (λ price. S) o → WhereFilled (λ price. S × (price ≼ limit ≡ true)) (no_dearer_than limit o k)
   unfolding WhereFilled no_dearer_than
-  within Absent h = tt
-  within (Of price) h = held_to S (λ x. x ≼ limit) price limit (k.low ≼ limit) h (λ f. itself limit (numbers k.low limit f).1)
+  within None h = tt
+  within (Some price) h = held_to S (λ x. x ≼ limit) price limit (k.low ≼ limit) h (λ f. itself limit (numbers k.low limit f).1)
 
-  above : (o : Optional) → WhereFilled (λ price. S) o → WhereFilled (λ price. S × (limit ≼ price ≡ true)) (no_cheaper_than limit o k)
+  above : (o : Option Float) → WhereFilled (λ price. S) o → WhereFilled (λ price. S × (limit ≼ price ≡ true)) (no_cheaper_than limit o k)
   unfolding WhereFilled no_cheaper_than
-  above Absent h = tt
-  above (Of price) h = held_to S (λ x. limit ≼ x) price limit (limit ≼ k.high) h (λ f. itself limit (numbers limit k.high f).0)
+  above None h = tt
+  above (Some price) h = held_to S (λ x. limit ≼ x) price limit (limit ≼ k.high) h (λ f. itself limit (numbers limit k.high f).0)
 
 -- what is so of a price with more is so with less
-first_of : (S : Type 0) (P : Float → Type 0) (o : Optional) → WhereFilled (λ price. S × P price) o → WhereFilled (λ price. S) o
+first_of : (S : Type 0) (P : Float → Type 0) (o : Option Float) → WhereFilled (λ price. S × P price) o → WhereFilled (λ price. S) o
 unfolding WhereFilled
-first_of S P Absent h = tt
-first_of S P (Of price) h = h.0
+first_of S P None h = tt
+first_of S P (Some price) h = h.0
 
 module _ (k : Candle) (stop limit : Float) where
   -- A long stop-limit fills only on a bar whose high reaches its stop, and at a raw price of at most its limit.

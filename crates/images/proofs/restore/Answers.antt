@@ -4,9 +4,9 @@ use Rattle.images.specs.{Laws.Fine.rows_within, Laws.Fine.restore_fine}
 use Rattle.images.proofs.{Answers.window_fits, Answers.restore_refused, Answers.restore_done}
 use Rattle.images.proofs.restore.Goals as goal
 
-pub returns-in-Bad : goal.returns-in-Bad
-returns-in-Bad c =
-    restore_refused _ _ _ c.judge_restore.ensures c.in-Bad.is
+pub returns-in-Err : goal.returns-in-Err
+returns-in-Err c =
+    restore_refused _ _ _ c.judge_restore.ensures c.in-Err.is
 
 pub read_window-requires : goal.read_window-requires
 read_window-requires c =

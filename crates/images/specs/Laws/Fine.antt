@@ -1,9 +1,9 @@
 -- What an image that is judged fine has been seen to have.
-use Rattle.std.specs.Prelude.{ℕ, ◌*◌, ◌≤◌, ◌≡◌, true, ◌&&◌, List, leb, eqb, length, get_or}
+use Rattle.std.specs.Prelude.{ℕ, ◌*◌, ◌≤◌, ◌≡◌, true, ◌&&◌, List, leb, eqb, length, get_or, Ok}
 use Rattle.words.specs.Prelude.{sym, ap, ◌∙◌, mul_assoc, mul_comm, mul-le-mul_right, arith, leb-true, eqb-true}
 use Rattle.words.specs.{Limits.row_words, Limits.most_slots, Limits.most_rows}
 use Rattle.records.specs.{declared.settings.Settings.Settings, Lent.row_places}
-use Rattle.refusals.specs.{declared.verdict.Verdict.TheVariants.Fine, Rooms.room_lines, Settings.setting_lines, Laws.Lines.and_true}
+use Rattle.refusals.specs.{Rooms.room_lines, Settings.setting_lines, Laws.Lines.and_true}
 use Rattle.refusals.specs.{Laws.Lines.first_holds, Laws.Lines.both_fine}
 use Rattle.images.specs.{Layout.head_bytes, Layout.dump_bytes, Reading.slots_in, Reading.version_in, Reading.depth_in, Reading.seen_in, Reading.rows_in}
 use Rattle.images.specs.{Reading.row_place, Refused.shape_fine, Refused.numbers_fine, Refused.image_lines, Refused.same_lines, Refused.restore_lines}
@@ -53,7 +53,7 @@ pub record RestoreFine (s : Settings) (x rows : List ℕ) : Type 0 where
   pub depth : depth_in x ≡ s.depth
   pub slots : slots_in x ≡ s.slots
 
-pub restore_fine : (s : Settings) (x rows : List ℕ) → restore_judged s x rows ≡ Fine → RestoreFine s x rows
+pub restore_fine : (s : Settings) (x rows : List ℕ) → restore_judged s x rows ≡ Ok tt → RestoreFine s x rows
 unfolding restore_judged restore_lines room_lines image_lines same_lines
 restore_fine s x rows h =
     let room = both_fine (room_lines s rows) _ h in

@@ -1,5 +1,5 @@
 -- A row judged by its words where they stand: prices and volume, the bits above K, and slot by slot, present and finite or absent and zero.
-use Rattle.std.specs.Prelude.{ℕ, zero, suc, ◌+◌, ◌-◌, ◌*◌, ◌/◌, ◌%◌, ◌^◌, ◌≤◌, ◌<◌, ◌≡◌, refl, Bool, true, false, cond, ◌&&◌, ◌||◌, List, [], ◌∷◌, ltb, eqb}
+use Rattle.std.specs.Prelude.{ℕ, zero, suc, ◌+◌, ◌-◌, ◌*◌, ◌/◌, ◌%◌, ◌^◌, ◌≤◌, ◌<◌, ◌≡◌, refl, Bool, true, false, cond, ◌&&◌, ◌||◌, List, [], ◌∷◌, ltb, eqb, Err, Ok}
 use Rattle.std.specs.Prelude.{length, get_or}
 use Rattle.words.specs.Prelude.{sym, ap, ◌∙◌}
 use Rattle.words.specs.Prelude.{⊎_elim, eq-or-lt_of_le, add-zero, add-suc, one-mul, pow-suc, zero-div, div-lt_iff_lt-mul, div-div-eq-div-mul, mul_comm}
@@ -10,7 +10,7 @@ use Rattle.floats.specs.{Floats.finite, Floats.float_of}
 use Rattle.table.specs.{Bytes.u64}
 use Rattle.records.specs.{Bar.candle_of, Bar.funding_of}
 use Rattle.engine.specs.{Record.listed, Laws.Lengths.listed_long}
-use Rattle.refusals.specs.{declared.verdict.Verdict.TheVariants.Fine, declared.verdict.Verdict.TheVariants.Bad, Bar.bit_fine, Bar.slot_fine, Bar.every}
+use Rattle.refusals.specs.{Bar.bit_fine, Bar.slot_fine, Bar.every}
 use Rattle.refusals.specs.{Bar.slots_fine, Bar.candle_fine, Bar.bar_lines, Lines.judged}
 use Rattle.images.specs.{Reading.words_at, Refused.is_fine, Refused.absent_zero, Refused.row_fine}
 
@@ -106,7 +106,7 @@ both_tests true f z = and_all f
 both_tests false f z = refl
 
 -- two lines of 11, and one that holds
-by_lines : (a b : Bool) (r : Refusal) → is_fine (cond a (cond b Fine (Bad r)) (Bad r)) ≡ (a && b)
+by_lines : (a b : Bool) (r : Refusal) → is_fine (cond a (cond b (Ok tt) (Err r)) (Err r)) ≡ (a && b)
 by_lines true true r = refl
 by_lines true false r = refl
 by_lines false b r = refl

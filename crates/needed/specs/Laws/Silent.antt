@@ -4,7 +4,7 @@ use Rattle.std.specs.Prelude.{replicate}
 use Rattle.words.specs.Prelude.{sym, ap, ◌∙◌, append_assoc}
 use Rattle.words.specs.Prelude.{append-nil, ⊎_elim, arith, eq-zero-or-pos, drop_at, lt-leb, leb-false}
 use Rattle.words.specs.{Limits.most_rows, Limits.most_reach}
-use Rattle.table.specs.{declared.nodes.Node.Node, declared.header.Form.Form, declared.answer.Answer.TheVariants.Accepted, Header.count, Header.root}
+use Rattle.table.specs.{declared.nodes.Node.Node, declared.header.Form.Form, Header.count, Header.root}
 use Rattle.table.specs.{Forest.Forest, Forest.trees, Forest.forest_of, Forest.sorts, Forest.Sorted, Reach.own_back, Reach.weigh, Checked.checked, Ends.from}
 use Rattle.table.specs.{Trees.reach_of, Trees.reach_of_all, Trees.Condition, Trees.Conditions, Trees.compare, Trees.cross, Trees.between, Trees.trend, Trees.every}
 use Rattle.table.specs.{Trees.any, Trees.negated, Trees.in_position, Trees.bars_since, Trees.none, Trees.more, Reading.first_of, Reading.conditions}
@@ -17,6 +17,7 @@ use Rattle.roundtrip.specs.{Laws.AcceptedWritten.tree_nodes, Laws.WrittenForest.
 use Rattle.roundtrip.specs.{Laws.WrittenGrows.grows_of, Laws.WrittenTrees.given_reach, Laws.AcceptedWithin.tree_within, Laws.Reading.operands_below}
 use Rattle.roundtrip.specs.{Laws.WrittenForestKept.sorted_of}
 use Rattle.table.specs.Header as Header
+use Rattle.table.specs.{Outcome.accepts}
 
 -- ---- the forest of a tree
 
@@ -97,7 +98,7 @@ module _ (d : ℕ) (form : Form) where
 
 -- ---- the trees of an accepted table
 
-module _ (t : List ℕ) (small : Bytes t) (n r : ℕ) (ok : checked t ≡ Accepted n r) where
+module _ (t : List ℕ) (small : Bytes t) (n r : ℕ) (ok : checked t ≡ accepts n r) where
   -- bytes from a place on, as numbers one after the other
   bytes_from : (at : ℕ) → at ≤ length t → drop at t ≡ from (λ i. get_or t i 0) (length t - at) at
   bytes_from at le =
@@ -195,7 +196,7 @@ module _ (d : ℕ) (some : 0 < d) where
               omega (arith, one.1 two.0, others.1 two.1),
         )
 
-module _ (t : List ℕ) (n r : ℕ) (ok : checked t ≡ Accepted n r) (d : ℕ) where
+module _ (t : List ℕ) (n r : ℕ) (ok : checked t ≡ accepts n r) (d : ℕ) where
   -- NONE OVER ENOUGH ROWS: over as many rows as the check says the table needs, or more, no test falls silent;
   pub enough_rows : r ≤ d → silent_tests t d ≡ []
   unfolding silent_tests silent_of

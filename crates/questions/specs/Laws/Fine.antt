@@ -1,8 +1,8 @@
 -- What a call for many rows that is judged fine has been seen to have.
-use Rattle.std.specs.Prelude.{ℕ, ◌*◌, ◌/◌, ◌≤◌, ◌≡◌, true, List}
+use Rattle.std.specs.Prelude.{ℕ, ◌*◌, ◌/◌, ◌≤◌, ◌≡◌, true, List, Ok}
 use Rattle.words.specs.Prelude.{arith, leb-true}
 use Rattle.rows.specs.{History.history_of, History.whole_rows}
-use Rattle.refusals.specs.{declared.verdict.Verdict.TheVariants.Fine, Lines.judged, Laws.Lines.first_holds}
+use Rattle.refusals.specs.{Lines.judged, Laws.Lines.first_holds}
 use Rattle.questions.specs.{Position.all_right, Over.asked_rows, Over.place_words, Over.over_lines}
 
 pub record OverFine (K : ℕ) (rows ps : List ℕ) (lines counts : ℕ) : Type 0 where
@@ -12,7 +12,7 @@ pub record OverFine (K : ℕ) (rows ps : List ℕ) (lines counts : ℕ) : Type 0
   pub held : asked_rows ps ≤ (history_of K rows).rows
   pub right : all_right ps (asked_rows ps) ≡ true
 
-pub over_fine : (K : ℕ) (rows ps : List ℕ) (lines counts : ℕ) → judged (over_lines K rows ps lines counts) ≡ Fine → OverFine K rows ps lines counts
+pub over_fine : (K : ℕ) (rows ps : List ℕ) (lines counts : ℕ) → judged (over_lines K rows ps lines counts) ≡ Ok tt → OverFine K rows ps lines counts
 unfolding over_lines
 over_fine K rows ps lines counts h =
     let a = first_holds _ _ h in

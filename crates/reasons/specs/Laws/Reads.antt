@@ -1,35 +1,35 @@
 -- An operand has a value at a bar exactly where none of the leaves that it looks at is missing. Assumes nothing.
-use Rattle.std.specs.Prelude.{ℕ, zero, suc, ◌+◌, ◌-◌, ◌≤◌, ◌<◌, ◌≡◌, refl, Bool, true, false, cond, ltb, Float}
+use Rattle.std.specs.Prelude.{ℕ, zero, suc, ◌+◌, ◌-◌, ◌≤◌, ◌<◌, ◌≡◌, refl, Bool, true, false, cond, ltb, Float, None, Option, Some}
 use Rattle.words.specs.Prelude.{ap, subst, arith, le-ltb, lt-ltb}
 use Rattle.words.specs.Prelude.{ltb-true, ltb-false}
 use Rattle.rows.specs.{History.History}
 use Rattle.table.specs.{declared.series.Series.Series, declared.series.Series.TheVariants.Price, declared.series.Series.TheVariants.Slot, Trees.Operand}
 use Rattle.table.specs.{Trees.const, Trees.ref, Trees.price, Trees.prev, Trees.arith as sums, Trees.extreme, Series.as_operand, Writing.nodes_in}
-use Rattle.rules.specs.{declared.values.Value.Value, declared.values.Value.TheVariants.Missing, declared.values.Value.TheVariants.Number, Values.combined}
+use Rattle.rules.specs.{Values.combined}
 use Rattle.rules.specs.{Values.pick, Meaning.newest, Meaning.there, Meaning.series_at, Meaning.extreme_over, Meaning.extreme_at, Meaning.value, Laws.Meaning.past}
 use Rattle.rules.specs.{Laws.Meaning.extreme_early, Laws.Meaning.extreme_late}
-use Rattle.chain.specs.{declared.missing.Found.Found, declared.missing.Found.TheVariants.Nowhere, declared.missing.Found.TheVariants.Leaf, Missing.in_table}
+use Rattle.chain.specs.{Missing.in_table}
 use Rattle.chain.specs.{Missing.first_found, Missing.gone_if, Missing.leaf_gone, Missing.newest_gone, Missing.missing_in}
 
 -- A leaf was found missing and so is the value, or none was and it is there.
-pub data Reads : Found → Value → Type 0 where
-  gone : (node back : ℕ) → Reads (Leaf node back) Missing
-  got : (x : Float) → Reads Nowhere (Number x)
+pub data Reads : Option (ℕ × ℕ) → Option Float → Type 0 where
+  gone : (node back : ℕ) → Reads (Some (node, back)) None
+  got : (x : Float) → Reads None (Some x)
 
-pub reads_gone : (i back : ℕ) (v : Value) → Reads (gone_if i back v) v
+pub reads_gone : (i back : ℕ) (v : Option Float) → Reads (gone_if i back v) v
 unfolding gone_if
-reads_gone i back Missing = gone i back
-reads_gone i back (Number x) = got x
+reads_gone i back None = gone i back
+reads_gone i back (Some x) = got x
 
 -- of two values: both have to be there
-reads_both : (kind : ℕ) {f g : Found} {v w : Value} → Reads f v → Reads g w → Reads (first_found f g) (combined kind v w)
+reads_both : (kind : ℕ) {f g : Option (ℕ × ℕ)} {v w : Option Float} → Reads f v → Reads g w → Reads (first_found f g) (combined kind v w)
 unfolding first_found combined
 reads_both kind (gone node back) q = gone node back
 reads_both kind (got x) (gone node back) = gone node back
 reads_both kind (got x) (got y) = got _
 
 -- of a newer and an older one
-reads_pick : (kind : ℕ) {f g : Found} {new old : Value} → Reads f new → Reads g old → Reads (first_found f g) (pick kind old new)
+reads_pick : (kind : ℕ) {f g : Option (ℕ × ℕ)} {new old : Option Float} → Reads f new → Reads g old → Reads (first_found f g) (pick kind old new)
 unfolding first_found pick
 reads_pick kind (gone node back) (gone n b) = gone node back
 reads_pick kind (gone node back) (got y) = gone node back
@@ -37,14 +37,14 @@ reads_pick kind (got x) (gone node back) = gone node back
 reads_pick kind (got x) (got y) = got _
 
 -- a missing one settles it
-missing_first : {f : Found} (g : Found) → Reads f Missing → Reads (first_found f g) Missing
+missing_first : {f : Option (ℕ × ℕ)} (g : Option (ℕ × ℕ)) → Reads f None → Reads (first_found f g) None
 unfolding first_found
 missing_first g (gone node back) = gone node back
 
-missing_second : (f : Found) {g : Found} → Reads g Missing → Reads (first_found f g) Missing
+missing_second : (f : Option (ℕ × ℕ)) {g : Option (ℕ × ℕ)} → Reads g None → Reads (first_found f g) None
 unfolding first_found
-missing_second (Leaf node back) q = gone node back
-missing_second Nowhere q = q
+missing_second (Some (node, back)) q = gone node back
+missing_second None q = q
 
 series_value : (h : History) (s : Series) (i : ℕ) → value h (as_operand s) i ≡ series_at h s i
 unfolding value series_at as_operand
@@ -57,18 +57,18 @@ module _ (h : History) (bar : ℕ) where
   unfolding leaf_gone
   leaf_reads a i back l = rw (le-ltb bar back l) (reads_gone i back (value h a (bar - back)))
 
-  leaf_far : (a : Operand) (i back : ℕ) → bar < back → Reads (leaf_gone h a i bar back) Missing
+  leaf_far : (a : Operand) (i back : ℕ) → bar < back → Reads (leaf_gone h a i bar back) None
   unfolding leaf_gone
-  leaf_far a i back l = rw (lt-ltb bar back l) (reads_gone i back Missing)
+  leaf_far a i back l = rw (lt-ltb bar back l) (reads_gone i back None)
 
   -- a leaf over bars some of which are before the first
-  newest_far : (a : Operand) (i back m : ℕ) → bar < back + m → Reads (newest_gone h a i bar back m) Missing
+  newest_far : (a : Operand) (i back m : ℕ) → bar < back + m → Reads (newest_gone h a i bar back m) None
   unfolding newest_gone
   newest_far a i back zero l = leaf_far a i back (omega arith)
   newest_far a i back (suc m) l = missing_second (leaf_gone h a i bar back) (newest_far a i (back + 1) m (omega arith))
 
   -- any operand looked at before the first bar
-  far : (a : Operand) (i back : ℕ) → bar < back → Reads (missing_in in_table h a i bar back) Missing
+  far : (a : Operand) (i back : ℕ) → bar < back → Reads (missing_in in_table h a i bar back) None
   unfolding missing_in
   far (const bits) i back l = leaf_far (const bits) i back l
   far (ref slot) i back l = leaf_far (ref slot) i back l
@@ -105,13 +105,13 @@ module _ (h : History) (bar : ℕ) where
     prev_reads : (a : Operand) (n i back : ℕ) → back ≤ bar
         → (back + n ≤ bar → Reads (missing_in in_table h a i bar (back + n)) (value h a (bar - (back + n))))
         → (early held : Bool) → ltb (bar - back) n ≡ early → ltb (bar - back) h.rows ≡ held
-        → Reads (missing_in in_table h a i bar (back + n)) (cond held (cond early Missing (value h a (bar - back - n))) Missing)
+        → Reads (missing_in in_table h a i bar (back + n)) (cond held (cond early None (value h a (bar - back - n))) None)
     unfolding newest
     prev_reads a n i back l deeper true held e f =
-        let none : Reads (missing_in in_table h a i bar (back + n)) Missing = far a i (back + n) (omega (arith, ltb-true (bar - back) n e)) in
+        let none : Reads (missing_in in_table h a i bar (back + n)) None = far a i (back + n) (omega (arith, ltb-true (bar - back) n e)) in
         either held none
       where
-        either : (b : Bool) → Reads (missing_in in_table h a i bar (back + n)) Missing → Reads (missing_in in_table h a i bar (back + n)) (cond b Missing Missing)
+        either : (b : Bool) → Reads (missing_in in_table h a i bar (back + n)) None → Reads (missing_in in_table h a i bar (back + n)) (cond b None None)
         either true r = r
         either false r = r
     prev_reads a n i back l deeper false true e f =

@@ -1,11 +1,10 @@
 -- A caller loses nothing between calls: the words of a state mean that state, if its floats are f64, as they are in every state that words
 -- mean and in a fresh one.
-use Rattle.std.specs.Prelude.{ℕ, ◌≤◌, ◌≡◌, refl, Bool, true, false, cond, List, ◌++◌, T, eqb, length, drop, Float}
+use Rattle.std.specs.Prelude.{ℕ, ◌≤◌, ◌≡◌, refl, Bool, true, false, cond, List, ◌++◌, T, eqb, length, drop, Float, None, Option, Some}
 use Rattle.words.specs.Prelude.{arith, le-leb, binary64, fits}
 use Rattle.words.specs.Prelude.{of_bits-to_bits, of_bits-fits}
 use Rattle.portfolio.specs.{Portfolio.fresh}
 use Rattle.floats.specs.{Floats.float_of}
-use Rattle.rules.specs.{declared.position.Entered.Entered, declared.position.Entered.TheVariants.Never, declared.position.Entered.TheVariants.Bar}
 use Rattle.execution.specs.{declared.level.OrderKind.OrderKind, declared.level.OrderKind.TheVariants.Market, declared.level.OrderKind.TheVariants.Limit}
 use Rattle.execution.specs.{declared.level.OrderKind.TheVariants.Stop, declared.level.OrderKind.TheVariants.StopLimit}
 use Rattle.words.specs.{Words.overwrite, Limits.state_words}
@@ -51,10 +50,10 @@ order_back (EnterLong delay kind) = refl
 order_back (EnterShort delay kind) = refl
 order_back (Exit delay) = refl
 
-pub entered_back : (e : Entered) → entered_of (entered_kind e) (entry_bar e) ≡ e
+pub entered_back : (e : Option ℕ) → entered_of (entered_kind e) (entry_bar e) ≡ e
 unfolding entered_of entered_kind entry_bar
-entered_back Never = refl
-entered_back (Bar bar) = refl
+entered_back None = refl
+entered_back (Some bar) = refl
 
 -- and so does the state, whatever stands behind its words; a NaN comes back as the one NaN there is
 pub state_back : (s : State) → Floats64 s → (rest : List ℕ) → state_of (words_of s ++ rest) ≡ s

@@ -1,10 +1,10 @@
 -- What a step that is judged fine has been seen to have: every line of the table of refusals holds.
-use Rattle.std.specs.Prelude.{ℕ, ◌≤◌, ◌<◌, ◌≡◌, List, length}
+use Rattle.std.specs.Prelude.{ℕ, ◌≤◌, ◌<◌, ◌≡◌, List, length, Ok}
 use Rattle.words.specs.Prelude.{ltb-true, leb-true, eqb-true}
 use Rattle.words.specs.{Limits.bar_words, Limits.most_count, Limits.most_slots}
 use Rattle.records.specs.{declared.settings.Settings.Settings, declared.state.State.State, Lent.Rooms, Lent.Lists, Lent.row_places, Lent.point_places}
 use Rattle.records.specs.{Lent.trade_places}
-use Rattle.refusals.specs.{declared.verdict.Verdict.TheVariants.Fine, Lines.judged, Settings.lookback, Settings.setting_lines, Rooms.room_lines}
+use Rattle.refusals.specs.{Lines.judged, Settings.lookback, Settings.setting_lines, Rooms.room_lines}
 use Rattle.refusals.specs.{Rooms.state_lines, Rooms.place_lines, Judgement.run_lines, Judgement.step_lines, Judgement.step_judged, Laws.Lines.and_true}
 use Rattle.refusals.specs.{Laws.Lines.first_holds, Laws.Lines.both_fine}
 
@@ -14,7 +14,7 @@ pub record SettingsFine (s : Settings) : Type 0 where
   pub depth : 1 ≤ s.depth
   pub behind : lookback s.terms.sizing < s.depth
 
-pub settings_fine : (s : Settings) → judged (setting_lines s) ≡ Fine → SettingsFine s
+pub settings_fine : (s : Settings) → judged (setting_lines s) ≡ Ok tt → SettingsFine s
 unfolding setting_lines
 settings_fine s h =
     let a = first_holds _ _ h in
@@ -27,7 +27,7 @@ settings_fine s h =
     }
 
 -- the rows that a fine state counts are in their room
-rows_fine_lem : (s : Settings) (t : State) (m : Rooms) → judged (state_lines s t m) ≡ Fine → t.counts.rows_held ≤ row_places s.slots m.rows
+rows_fine_lem : (s : Settings) (t : State) (m : Rooms) → judged (state_lines s t m) ≡ Ok tt → t.counts.rows_held ≤ row_places s.slots m.rows
 unfolding state_lines
 rows_fine_lem s t m h =
     let held = (first_holds _ _ (first_holds _ _ h).1).0 in
@@ -43,7 +43,7 @@ pub record StepFine (s : Settings) (t : State) (bar : List ℕ) (m : Rooms) : Ty
   pub trades : t.counts.trades < trade_places m.trades
   pub bars : t.counts.bars_seen < most_count
 
-pub step_fine : (s : Settings) (t : State) (bar : List ℕ) (m : Rooms) (ls : Lists) → step_judged s t bar m ls ≡ Fine → StepFine s t bar m
+pub step_fine : (s : Settings) (t : State) (bar : List ℕ) (m : Rooms) (ls : Lists) → step_judged s t bar m ls ≡ Ok tt → StepFine s t bar m
 unfolding step_judged step_lines run_lines room_lines place_lines
 step_fine s t bar m ls h =
     let run = both_fine (run_lines s t m) _ h in

@@ -1,12 +1,12 @@
 -- A list of lines, judged from the top: what holds of it as a whole, and of a list that stands below another.
-use Rattle.std.specs.Prelude.{ℕ, ◌≡◌, refl, Bool, true, false, cond, ◌&&◌, List, [], ◌∷◌, ◌++◌}
+use Rattle.std.specs.Prelude.{ℕ, ◌≡◌, refl, Bool, true, false, cond, ◌&&◌, List, [], ◌∷◌, ◌++◌, Err, Ok}
 use Rattle.words.specs.Prelude.{sym, arith}
 use Rattle.words.specs.{declared.refusal.Refusal.Refusal}
-use Rattle.refusals.specs.{declared.verdict.Verdict.Verdict, declared.verdict.Verdict.TheVariants.Fine, declared.verdict.Verdict.TheVariants.Bad}
 use Rattle.refusals.specs.{Lines.Line, Lines.judged, Lines.first_bad}
+use Rattle.refusals.specs.{Lines.Verdict}
 
 -- no verdict is both
-pub never : {A : Type 0} {r : Refusal} → Bad r ≡ Fine → A
+pub never : {A : Type 0} {r : Refusal} → Err r ≡ Ok tt → A
 never e = absurd (let z : ◌≡◌ {A = ℕ} 0 1 = cc in omega arith)
 
 -- of two tests in one, both hold
@@ -15,12 +15,12 @@ and_true true b h = (refl, h)
 and_true false b h = absurd (let z : ◌≡◌ {A = ℕ} 0 1 = cc in omega arith)
 
 -- a line that is passed, and what the lines below it say
-passed : (ok : Bool) (v : Verdict) (r : Refusal) → cond ok v (Bad r) ≡ Fine → (ok ≡ true) × (v ≡ Fine)
+passed : (ok : Bool) (v : Verdict) (r : Refusal) → cond ok v (Err r) ≡ Ok tt → (ok ≡ true) × (v ≡ Ok tt)
 passed true v r h = (refl, h)
 passed false v r h = never h
 
 -- in a fine list the first line holds, and what is below it is fine
-pub first_holds : (l : Line) (ls : List Line) → judged (l ∷ ls) ≡ Fine → (l.ok ≡ true) × (judged ls ≡ Fine)
+pub first_holds : (l : Line) (ls : List Line) → judged (l ∷ ls) ≡ Ok tt → (l.ok ≡ true) × (judged ls ≡ Ok tt)
 unfolding judged
 first_holds l ls h = passed l.ok (judged ls) _ h
 
@@ -31,7 +31,7 @@ blocks [] b = refl
 blocks (l ∷ a) b = go l.ok _ (blocks a b)
   where
     go : (ok : Bool) (r : Refusal) → judged (a ++ b) ≡ first_bad (judged a) (judged b)
-        → cond ok (judged (a ++ b)) (Bad r) ≡ first_bad (cond ok (judged a) (Bad r)) (judged b)
+        → cond ok (judged (a ++ b)) (Err r) ≡ first_bad (cond ok (judged a) (Err r)) (judged b)
     go true r e = e
     go false r e = refl
 
@@ -39,21 +39,21 @@ pub two_blocks : (a b : List Line) {w v : Verdict} → w ≡ judged a → v ≡ 
 two_blocks a b h e = rw (h, e) (sym (blocks a b))
 
 -- lines below others are asked where those above hold
-pub below_fine : (a b : List Line) → judged a ≡ Fine → judged (a ++ b) ≡ judged b
+pub below_fine : (a b : List Line) → judged a ≡ Ok tt → judged (a ++ b) ≡ judged b
 below_fine a b h = rw (blocks, h)
 
 -- and not where one of them does not
-pub below_bad : (a b : List Line) (r : Refusal) → judged a ≡ Bad r → judged (a ++ b) ≡ Bad r
+pub below_bad : (a b : List Line) (r : Refusal) → judged a ≡ Err r → judged (a ++ b) ≡ Err r
 below_bad a b r h = rw (blocks, h)
 
 -- lines below others that are fine add nothing
-pub fine_adds_nothing : (a b : List Line) → judged b ≡ Fine → judged (a ++ b) ≡ judged a
+pub fine_adds_nothing : (a b : List Line) → judged b ≡ Ok tt → judged (a ++ b) ≡ judged a
 unfolding judged
 fine_adds_nothing [] b h = h
 fine_adds_nothing (l ∷ a) b h = rw (fine_adds_nothing a b h)
 
 -- of two lists, one below the other, both are fine where the whole is
-pub both_fine : (a b : List Line) → judged (a ++ b) ≡ Fine → (judged a ≡ Fine) × (judged b ≡ Fine)
+pub both_fine : (a b : List Line) → judged (a ++ b) ≡ Ok tt → (judged a ≡ Ok tt) × (judged b ≡ Ok tt)
 unfolding judged
 both_fine [] b h = (refl, h)
 both_fine (l ∷ a) b h =

@@ -1,11 +1,10 @@
 -- The words of the state that words mean are these words again, where each is of a known kind, no field is set that its kind does not use, and each
 -- float's word is that of the float it means.
-use Rattle.std.specs.Prelude.{ℕ, ◌≤◌, ◌<◌, ◌≡◌, refl, Bool, true, false, cond, not, T, eqb, ltb}
+use Rattle.std.specs.Prelude.{ℕ, ◌≤◌, ◌<◌, ◌≡◌, refl, Bool, true, false, cond, not, T, eqb, ltb, None, Some}
 use Rattle.words.specs.Prelude.{is_nan}
 use Rattle.words.specs.Prelude.{sym, arith, eqb-true, eqb-false, binary64}
 use Rattle.words.specs.Prelude.{to_bits-of_bits}
 use Rattle.floats.specs.{Floats.float_of, Floats.word_of}
-use Rattle.rules.specs.{declared.position.Entered.TheVariants.Never, declared.position.Entered.TheVariants.Bar}
 use Rattle.execution.specs.{declared.level.OrderKind.OrderKind, declared.level.OrderKind.TheVariants.Market, declared.level.OrderKind.TheVariants.Limit}
 use Rattle.execution.specs.{declared.level.OrderKind.TheVariants.Stop, declared.level.OrderKind.TheVariants.StopLimit}
 use Rattle.records.specs.{declared.state.Order.Order, declared.state.Order.TheVariants.Idle, declared.state.Order.TheVariants.EnterLong}
@@ -95,7 +94,7 @@ pub entered_again : (there bar : ℕ) → there ≤ 1 → used_or_zero (ltb 0 th
 unfolding entered_of entered_kind entry_bar
 entered_again there bar l u = go (eqb there 0) refl
   where
-    go : (b : Bool) → eqb there 0 ≡ b → (entered_kind (cond b Never (Bar bar)) ≡ there) × (entry_bar (cond b Never (Bar bar)) ≡ bar)
+    go : (b : Bool) → eqb there 0 ≡ b → (entered_kind (cond b None (Some bar)) ≡ there) × (entry_bar (cond b None (Some bar)) ≡ bar)
     go true e =
         let is : there ≡ 0 = eqb-true there 0 e in
         (sym is, sym (unused (ltb 0 there) bar (rw is refl) u))

@@ -1,10 +1,10 @@
 -- The first eight bytes of an image: bytes that are an image's behind them, and that 19 and 20 let pass, are the image.
-use Rattle.std.specs.Prelude.{ℕ, zero, suc, ◌+◌, ◌*◌, ◌/◌, ◌%◌, ◌≤◌, ◌<◌, ◌≡◌, refl, Bool, true, false, List, ltb, length, get_or}
+use Rattle.std.specs.Prelude.{ℕ, zero, suc, ◌+◌, ◌*◌, ◌/◌, ◌%◌, ◌≤◌, ◌<◌, ◌≡◌, refl, Bool, true, false, List, ltb, length, get_or, Ok}
 use Rattle.words.specs.Prelude.{sym, ◌∙◌, mod-eq_of_lt, arith, eqb-true}
 use Rattle.words.specs.Prelude.{ltb-true, ltb-false, ext_get_or}
 use Rattle.table.specs.{Bytes.u16, Bytes.Bytes}
 use Rattle.records.specs.{declared.settings.Settings.Settings, declared.state.State.State}
-use Rattle.refusals.specs.{declared.verdict.Verdict.TheVariants.Fine, Lines.judged, Laws.Lines.first_holds}
+use Rattle.refusals.specs.{Lines.judged, Laws.Lines.first_holds}
 use Rattle.images.specs.{Layout.numbers, Layout.head, Layout.image, Layout.image_of, Reading.slots_in, Reading.depth_in, Refused.image_lines, Refused.same_lines}
 use Rattle.images.specs.{Laws.Fine.ShapeFine, Laws.Fine.shape_fine_lem}
 use Rattle.restart.specs.{Laws.Marked.Marked, Laws.Marked.shape_marked}
@@ -16,7 +16,7 @@ record FirstWord (s : Settings) (x : List ℕ) : Type 0 where
   slots : slots_in x ≡ s.slots
   depth : depth_in x ≡ s.depth
 
-first_word : (s : Settings) (x : List ℕ) → judged (image_lines x) ≡ Fine → judged (same_lines s x) ≡ Fine → FirstWord s x
+first_word : (s : Settings) (x : List ℕ) → judged (image_lines x) ≡ Ok tt → judged (same_lines s x) ≡ Ok tt → FirstWord s x
 unfolding image_lines same_lines
 first_word s x nineteen twenty =
     let shape = (first_holds _ _ nineteen).0 in
@@ -72,7 +72,7 @@ module _ (s : Settings) (t : State) (room : List ℕ) where
         (one ∙ sym m.4) (none ∙ sym m.5) (low ∙ sym m.6) (high ∙ sym m.7)
 
     -- Of the first eight bytes 19 and 20 leave no other value than the image's.
-    pub passed_whole : judged (image_lines x) ≡ Fine → judged (same_lines s x) ≡ Fine → x ≡ image_of s t room
+    pub passed_whole : judged (image_lines x) ≡ Ok tt → judged (same_lines s x) ≡ Ok tt → x ≡ image_of s t room
     passed_whole nineteen twenty = ext_get_or 0 x (image_of s t room) long (λ i l. go i (ltb i 8) refl l)
       where
         go : (i : ℕ) (b : Bool) → ltb i 8 ≡ b → i < length x → get_or x i 0 ≡ get_or (image_of s t room) i 0

@@ -1,16 +1,14 @@
 -- After any bars from a fresh state, the numbers of a state and the words of its window are such as the code's types hold, where those of the settings
 -- and of the bars are.
-use Rattle.std.specs.Prelude.{ℕ, zero, suc, ◌-◌, ◌*◌, ◌/◌, ◌%◌, ◌^◌, ◌≤◌, ◌<◌, ◌≡◌, Bool, true, false, cond, List, [], ◌∷◌, ◌++◌, leb, ltb, eqb, length}
+use Rattle.std.specs.Prelude.{ℕ, zero, suc, ◌-◌, ◌*◌, ◌/◌, ◌%◌, ◌^◌, ◌≤◌, ◌<◌, ◌≡◌, Bool, true, false, cond, List, [], ◌∷◌, ◌++◌, leb, ltb, eqb, length, None, Ok, Option, Some}
 use Rattle.std.specs.Prelude.{get_or}
 use Rattle.words.specs.Prelude.{ap, ◌∙◌, zero-mul}
 use Rattle.words.specs.Prelude.{arith, leb-true, ltb-true, List·get_or-eq_default, get_or-drop}
 use Rattle.words.specs.{Limits.row_words, Limits.most_rows}
 use Rattle.rows.specs.{History.last_rows}
-use Rattle.rules.specs.{declared.position.Entered.Entered, declared.position.Entered.TheVariants.Never, declared.position.Entered.TheVariants.Bar}
 use Rattle.portfolio.specs.{Portfolio.fresh}
 use Rattle.records.specs.{declared.settings.Settings.Settings, declared.state.State.State, Bar.candle_of, Lent.Lists, Lent.Rooms, Lent.row_places}
 use Rattle.records.specs.{State.fresh_state, StateWords.order_delay, StateWords.entry_bar, Laws.RoundTrip.Floats64}
-use Rattle.refusals.specs.{declared.verdict.Verdict.TheVariants.Fine}
 use Rattle.refusals.specs.{Lines.judged, Rooms.entry_below, Settings.setting_lines, Laws.Fine.settings_fine, Laws.Lines.and_true, Laws.Lines.first_holds}
 use Rattle.runs.specs.{Laws.Floats.step_floats, Laws.FirstBar.by_first_bar}
 use Rattle.engine.specs.{Laws.Runs.run_none, Record.row_word, Record.listed, Record.row_of, Run.run_over, Step.stepped, Step.step_verdict}
@@ -58,12 +56,12 @@ row_words_lem K bar h =
 
 -- ---- what an image needs of its numbers
 
-entry_small : (e : Entered) (n : ℕ) → entry_below e n ≡ true → n < 4294967296 → entry_bar e < 4294967296
+entry_small : (e : Option ℕ) (n : ℕ) → entry_below e n ≡ true → n < 4294967296 → entry_bar e < 4294967296
 unfolding entry_bar
-entry_small Never n h l = omega arith
-entry_small (Bar b) n h l = omega (arith, ltb-true b n h)
+entry_small None n h l = omega arith
+entry_small (Some b) n h l = omega (arith, ltb-true b n h)
 
-depth_fine : (s : Settings) → judged (setting_lines s) ≡ Fine → s.depth ≤ most_rows
+depth_fine : (s : Settings) → judged (setting_lines s) ≡ Ok tt → s.depth ≤ most_rows
 unfolding setting_lines
 depth_fine s h =
     let depth = (first_holds _ _ (first_holds _ _ h).1).0 in
@@ -72,7 +70,7 @@ depth_fine s h =
 -- ---- a box
 
 module _ (s : Settings) (ls : Lists) (delay : Word64 s.delay) where
-  step_storable : (t : State) (m : Rooms) (bar : List ℕ) → step_verdict s t bar m ls ≡ Fine → Words64 bar → Passed s t m → Storable s t m
+  step_storable : (t : State) (m : Rooms) (bar : List ℕ) → step_verdict s t bar m ls ≡ Ok tt → Words64 bar → Passed s t m → Storable s t m
       → Storable s (stepped s t bar m ls).result (stepped s t bar m ls).rooms
   unfolding stepped candle_of
   step_storable t m bar fine w p k =
@@ -103,7 +101,7 @@ module _ (s : Settings) (ls : Lists) (delay : Word64 s.delay) where
       (λ e.
       run_storable bars (stepped s t bar m ls).result (stepped s t bar m ls).rooms f.1 (step_passed s ls t m bar e p) (step_storable t m bar e f.0 p k))
 
-fresh_storable : (s : Settings) (m : Rooms) → Passed s (fresh_state s) m → judged (setting_lines s) ≡ Fine → Floats64 (fresh_state s) → Storable s (fresh_state s) m
+fresh_storable : (s : Settings) (m : Rooms) → Passed s (fresh_state s) m → judged (setting_lines s) ≡ Ok tt → Floats64 (fresh_state s) → Storable s (fresh_state s) m
 unfolding fresh_state fresh order_delay entry_bar
 fresh_storable s m passed twelve floats =
     let whole = window_whole s (fresh_state s) m.rows passed.sound.within.rows in
@@ -127,7 +125,7 @@ fresh_storable s m passed twelve floats =
 -- ANY BARS FROM A FRESH STATE leave a box that has all that its image needs (`Storable`): settings that 12 lets pass, whose capital is an f64 and whose delay a
 -- 64-bit word, and bars of 64-bit words are all that is asked.
 pub reached_storable : (s : Settings) (ls : Lists) (m : Rooms) (bars : List (List ℕ)) → s.depth ≤ row_places s.slots m.rows
-    → judged (setting_lines s) ≡ Fine → Floats64 (fresh_state s) → Word64 s.delay → Bars64 bars
+    → judged (setting_lines s) ≡ Ok tt → Floats64 (fresh_state s) → Word64 s.delay → Bars64 bars
     → let b = run_over s ls (fresh_state s) m bars in
     Storable s b.state b.rooms
 reached_storable s ls m bars deep twelve floats delay words =

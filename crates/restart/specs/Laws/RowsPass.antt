@@ -1,13 +1,12 @@
 -- Rows that 11 would let pass: the row of a bar that it let pass, and a window to which such a row is added.
-use Rattle.std.specs.Prelude.{ℕ, zero, suc, ◌+◌, ◌-◌, ◌*◌, ◌/◌, ◌%◌, ◌^◌, ◌≤◌, ◌<◌, ◌≡◌, refl, Bool, true, false, List, ◌++◌, ltb, eqb, length, get_or, drop}
+use Rattle.std.specs.Prelude.{ℕ, zero, suc, ◌+◌, ◌-◌, ◌*◌, ◌/◌, ◌%◌, ◌^◌, ◌≤◌, ◌<◌, ◌≡◌, refl, Bool, true, false, List, ◌++◌, ltb, eqb, length, get_or, drop, None, Ok}
 use Rattle.words.specs.Prelude.{ap, ◌∙◌, ⊎_elim, eq-or-lt_of_le}
 use Rattle.words.specs.Prelude.{add-mul, le-div_iff_mul-le, mul-div_cancel, mul-le-mul_right, arith, lt-ltb, le-ltb, ltb-true}
 use Rattle.words.specs.Prelude.{length-append, length-drop, List·get_or-append, List·get_or-eq_default, get_or-append-add, get_or-drop}
 use Rattle.words.specs.{Limits.row_words, Limits.most_slots}
 use Rattle.rows.specs.{History.last_rows}
-use Rattle.execution.specs.{declared.costs.Funding.TheVariants.NotSupplied}
 use Rattle.records.specs.{Bar.candle_of, Bar.funding_of}
-use Rattle.refusals.specs.{declared.verdict.Verdict.TheVariants.Fine, Bar.bit_fine, Bar.slot_fine, Bar.every, Bar.slots_fine, Bar.candle_fine, Bar.bar_lines}
+use Rattle.refusals.specs.{Bar.bit_fine, Bar.slot_fine, Bar.every, Bar.slots_fine, Bar.candle_fine, Bar.bar_lines}
 use Rattle.refusals.specs.{Lines.judged, Laws.Lines.and_true, Laws.Lines.first_holds}
 use Rattle.engine.specs.{Record.row_word, Record.listed, Record.row_of, Laws.Lengths.row_long}
 use Rattle.images.specs.{Refused.used_or_zero, Refused.absent_zero, Refused.row_fine}
@@ -59,7 +58,7 @@ module _ (K : ℕ) (bar : List ℕ) where
   same_candle =
       rw (first_seven 1 (omega arith), first_seven 2 (omega arith), first_seven 3 (omega arith), first_seven 4 (omega arith), first_seven 5 (omega arith))
 
-  no_funding : funding_of K (row_of K bar) ≡ NotSupplied
+  no_funding : funding_of K (row_of K bar) ≡ None
   unfolding funding_of
   no_funding = rw (row_past (7 + K) (omega arith))
 
@@ -81,14 +80,14 @@ module _ (K : ℕ) (bar : List ℕ) where
   absent_pass = every_of K _ (λ k l. rw (first_seven 6 (omega arith)) (slot_word k _ l refl).0)
 
   -- what 11 looked at
-  seen_fine : (seen : ℕ) → judged (bar_lines K bar seen) ≡ Fine → (candle_fine (candle_of bar) ≡ true) × (slots_fine K bar ≡ true)
+  seen_fine : (seen : ℕ) → judged (bar_lines K bar seen) ≡ Ok tt → (candle_fine (candle_of bar) ≡ true) × (slots_fine K bar ≡ true)
   unfolding bar_lines
   seen_fine seen h =
       let candle = first_holds _ _ h in
       (candle.0, (first_holds _ _ candle.1).0)
 
   -- A BAR THAT 11 LETS PASS has a row that it would let pass.
-  pub row_passes : (seen : ℕ) → judged (bar_lines K bar seen) ≡ Fine → row_fine K (row_of K bar) ≡ true
+  pub row_passes : (seen : ℕ) → judged (bar_lines K bar seen) ≡ Ok tt → row_fine K (row_of K bar) ≡ true
   unfolding row_fine bar_lines judged
   row_passes seen h =
       let looked = seen_fine seen h in

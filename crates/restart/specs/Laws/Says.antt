@@ -1,8 +1,7 @@
 -- What a whole image says of the state that it was written from, and that none of its fields is one that 19 refuses.
-use Rattle.std.specs.Prelude.{ℕ, ◌+◌, ◌*◌, ◌≤◌, ◌≡◌, refl, true, List, leb, ltb, eqb, length, get_or}
+use Rattle.std.specs.Prelude.{ℕ, ◌+◌, ◌*◌, ◌≤◌, ◌≡◌, refl, true, List, leb, ltb, eqb, length, get_or, None, Option, Some}
 use Rattle.words.specs.Prelude.{arith, le-leb, eq-eqb}
 use Rattle.words.specs.{Limits.row_words, Limits.most_slots, Limits.most_rows}
-use Rattle.rules.specs.{declared.position.Entered.Entered, declared.position.Entered.TheVariants.Never, declared.position.Entered.TheVariants.Bar}
 use Rattle.execution.specs.{declared.level.OrderKind.OrderKind, declared.level.OrderKind.TheVariants.Market, declared.level.OrderKind.TheVariants.Limit}
 use Rattle.execution.specs.{declared.level.OrderKind.TheVariants.Stop, declared.level.OrderKind.TheVariants.StopLimit}
 use Rattle.records.specs.{declared.state.Order.Order, declared.state.Order.TheVariants.Idle, declared.state.Order.TheVariants.EnterLong}
@@ -15,7 +14,7 @@ use Rattle.images.specs.{Reading.order_in, Reading.kind_in, Reading.entered_in, 
 use Rattle.images.specs.{Refused.shape_fine, Refused.numbers_fine, Refused.used_or_zero, Refused.is_entry, Refused.unused_zero}
 
 -- The fields of an image `x`: K, D, bars seen, rows, the order and the entry bar.
-pub record Says (x : List ℕ) (K D bars held : ℕ) (o : Order) (e : Entered) : Type 0 where
+pub record Says (x : List ℕ) (K D bars held : ℕ) (o : Order) (e : Option ℕ) : Type 0 where
   pub slots : slots_in x ≡ K
   pub depth : depth_in x ≡ D
   pub seen : seen_in x ≡ bars
@@ -44,10 +43,10 @@ kind_known (Limit x) = refl
 kind_known (Stop x) = refl
 kind_known (StopLimit x y) = refl
 
-entered_known : (e : Entered) → leb (entered_kind e) 1 ≡ true
+entered_known : (e : Option ℕ) → leb (entered_kind e) 1 ≡ true
 unfolding entered_kind
-entered_known Never = refl
-entered_known (Bar b) = refl
+entered_known None = refl
+entered_known (Some b) = refl
 
 -- ---- fields that their kind does not use
 
@@ -79,14 +78,14 @@ limit_used (Limit x) = refl
 limit_used (Stop x) = refl
 limit_used (StopLimit x y) = refl
 
-entry_used : (e : Entered) → used_or_zero (ltb 0 (entered_kind e)) (entry_bar e) ≡ true
+entry_used : (e : Option ℕ) → used_or_zero (ltb 0 (entered_kind e)) (entry_bar e) ≡ true
 unfolding entered_kind entry_bar
-entry_used Never = refl
-entry_used (Bar b) = refl
+entry_used None = refl
+entry_used (Some b) = refl
 
 -- ---- the lines of 19 about fields
 
-module _ (x : List ℕ) (K D bars held : ℕ) (o : Order) (e : Entered) (says : Says x K D bars held o e) where
+module _ (x : List ℕ) (K D bars held : ℕ) (o : Order) (e : Option ℕ) (says : Says x K D bars held o e) where
   pub unused_fine : unused_zero x ≡ true
   unfolding unused_zero
   unused_fine =

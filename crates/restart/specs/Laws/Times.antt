@@ -1,14 +1,13 @@
 -- The time of the last entry and the delay of an order stay below 2^64, where the bar's time and the delay setting are.
-use Rattle.std.specs.Prelude.{ℕ, ◌<◌, Bool, true, false, cond, List, Float}
+use Rattle.std.specs.Prelude.{ℕ, ◌<◌, Bool, true, false, cond, List, Float, None, Option, Some}
 use Rattle.words.specs.Prelude.{arith}
 use Rattle.floats.specs.{Floats.◌⊗◌, Floats.◌≺◌, Floats.eps}
 use Rattle.rows.specs.{History.History}
 use Rattle.portfolio.specs.{declared.Candle.Candle, declared.Portfolio.Portfolio, Portfolio.in_position}
 use Rattle.portfolio.specs.{Portfolio.funded, Portfolio.worsened, Portfolio.entered, Portfolio.exited}
 use Rattle.execution.specs.{declared.fills.Entry.Entry, declared.fills.Entry.TheVariants.NoEntry, declared.fills.Entry.TheVariants.TooLarge}
-use Rattle.execution.specs.{declared.fills.Entry.TheVariants.Entered, declared.fills.Exit.Exit, declared.fills.Exit.TheVariants.NoExit}
-use Rattle.execution.specs.{declared.fills.Exit.TheVariants.Exited, declared.costs.Funding.Funding, declared.costs.Funding.TheVariants.NotSupplied}
-use Rattle.execution.specs.{declared.costs.Funding.TheVariants.Supplied, declared.optional.Optional.Optional}
+use Rattle.execution.specs.{declared.fills.Entry.TheVariants.Entered}
+use Rattle.execution.specs.{declared.costs.Funding.Funding}
 use Rattle.execution.specs.{declared.lots.Quantity.Quantity, declared.lots.Quantity.TheVariants.Nothing, declared.lots.Quantity.TheVariants.Of}
 use Rattle.execution.specs.{declared.level.Side.Side, declared.terms.Terms.Terms, Costs.slippage_rate, Costs.fill_price}
 use Rattle.execution.specs.{Costs.closed, Costs.with_funding, Costs.charge_funding, Fills.direction, Fills.volatility_for, Fills.quantity, Fills.probe_qty}
@@ -21,6 +20,7 @@ use Rattle.engine.specs.{Account.done_of, Account.filled, Account.intrabar, Acco
 use Rattle.runs.specs.{Laws.Exits.LeftWith, Laws.Exits.left, Laws.Exits.executed_leaves, Laws.Exits.inside_leaves}
 use Rattle.runs.specs.{Laws.Orders.filled_keeps, Laws.Orders.ordered_keeps, Laws.Orders.decided_keeps}
 use Rattle.engine.specs.Account as Account
+use Rattle.portfolio.specs.{declared.Closed.Closed}
 
 -- what a 64-bit word holds
 abbrev pub Word64 : ℕ → Type 0
@@ -43,10 +43,10 @@ closed_timed : (p : Portfolio) (price : Float) (time : ℕ) (bps : Float) (reaso
 unfolding closed exited
 closed_timed p price time bps reason h = h
 
-leaving_timed : (p : Position) (x : Exit) → Timed p.portfolio → LeftWith Timed x → Timed (leaving p x).portfolio
+leaving_timed : (p : Position) (x : Option Closed) → Timed p.portfolio → LeftWith Timed x → Timed (leaving p x).portfolio
 unfolding leaving
-leaving_timed p NoExit h e = h
-leaving_timed p (Exited c) h (left _ i) = i
+leaving_timed p None h e = h
+leaving_timed p (Some c) h (left _ i) = i
 
 data TimedEntry : Entry → Type 0 where
   none : TimedEntry NoEntry
@@ -73,7 +73,7 @@ entry_timed : (side : Side) (raw bps : Float) (terms : Terms) (k : Candle) (p : 
     → TimedEntry (execute_entry side raw bps terms k p h)
 unfolding execute_entry
 entry_timed side raw bps terms k p h t =
-    let rv : Optional = volatility_for terms.sizing h in
+    let rv : Option Float = volatility_for terms.sizing h in
     let probe : Quantity = probe_qty terms.slippage terms p.cash raw rv in
     let fill : Float = fill_price raw (direction side) (slippage_rate terms.slippage (or_zero probe) k.volume) in
     let q : Quantity = within_volume terms (quantity terms p.cash fill rv) k.volume in
@@ -101,10 +101,10 @@ intrabar_timed s p k h =
     let held : Timed q = facing_timed p k h in
     leaving_timed (record { portfolio = q; entered = _; extreme = _ }) _ held (inside_leaves Timed closed_timed k s.terms q _ held)
 
-funding_timed : (f : Funding) (p : Portfolio) → Timed p → Timed (with_funding f p)
+funding_timed : (f : Option Funding) (p : Portfolio) → Timed p → Timed (with_funding f p)
 unfolding with_funding funded
-funding_timed NotSupplied p h = h
-funding_timed (Supplied mark rate) p h = h
+funding_timed None p h = h
+funding_timed (Some funding) p h = h
 
 charged_timed : (s : Settings) (p : Position) (bar : List ℕ) → Timed p.portfolio → Timed (charged s p bar).portfolio
 unfolding charged charge_funding

@@ -3,7 +3,7 @@
 use Rattle.std.specs.Prelude.{◌≡◌, List, ℕ, zero, suc, ◌+◌, ◌*◌, ◌<◌, length}
 use Rattle.words.specs.Prelude.{◌∙◌, ap, ⊎_elim, arith, eq-zero-or-pos, eq-eqb, ne_eqb}
 use Rattle.words.specs.{Limits.most_nesting}
-use Rattle.table.specs.{declared.answer.Answer.TheVariants.Accepted, Bytes.u64, Header.form_of, Header.count, Header.root, Nodes.node_at, Nodes.child_count_at}
+use Rattle.table.specs.{Bytes.u64, Header.form_of, Header.count, Header.root, Nodes.node_at, Nodes.child_count_at}
 use Rattle.table.specs.{Forest.Forest, Forest.first_trees, Forest.other_trees, Forest.node_over, Forest.trees, Forest.forest_of, Checked.checked}
 use Rattle.table.specs.{Reading.conditions, Reading.present, Reading.tree_of, Writing.short_of, Writing.rule_of, Limits.TreeWithin, Limits.ShortWithin}
 use Rattle.table.specs.{Limits.RuleWithin, Laws.Accepted.header_of_lem, Laws.Accepted.node_of, Laws.Accepted.tree_ends, Laws.Accepted.tree_sorts}
@@ -11,6 +11,7 @@ use Rattle.table.specs.{Laws.Accepted.tree_nesting, Laws.Accepted.tree_reach_lem
 use Rattle.roundtrip.specs.{Laws.Reading.many_conditions, Laws.Reach.tree_reach_is, Laws.AcceptedWritten.right_trees, Laws.AcceptedWritten.u16_small}
 use Rattle.roundtrip.specs.{Laws.AcceptedWritten.u32_small, Laws.AcceptedWritten.rule_nodes, Laws.Limits.first_in, Laws.Limits.all_fine}
 use Rattle.roundtrip.specs.{Laws.OwnBytes.NodeFits, Laws.OwnBytes.FieldsFit}
+use Rattle.table.specs.{Outcome.accepts}
 
 -- the fields of a node read from bytes fit
 small_node : (t : List ℕ) → Bytes t → (i : ℕ) → NodeFits (node_at t i)
@@ -42,7 +43,7 @@ small_trees t small (suc m) i =
     let g = small_first (child_count_at t i) (trees t m (i + 1)) (small_trees t small m (i + 1)) in
     (small_node t small i, g.0, g.1)
 
-module _ (t : List ℕ) (small : Bytes t) (n r : ℕ) (ok : checked t ≡ Accepted n r) where
+module _ (t : List ℕ) (small : Bytes t) (n r : ℕ) (ok : checked t ≡ accepts n r) where
   pub tree_within : (x : ℕ) → x < 4 → 0 < count t x → TreeWithin (form_of t) (tree_of t x)
   unfolding tree_of forest_of root
   tree_within x l some =

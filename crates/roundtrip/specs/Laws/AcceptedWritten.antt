@@ -4,7 +4,7 @@
 use Rattle.std.specs.Prelude.{◌≡◌, refl, true, List, [], ◌∷◌, ◌++◌, ℕ, zero, suc, ◌+◌, ◌*◌, ◌/◌, ◌%◌, ◌≤◌, ◌<◌, length, get_or, eqb}
 use Rattle.words.specs.Prelude.{sym, ◌∙◌, ap, ⊎_elim, arith, eq-zero-or-pos}
 use Rattle.words.specs.Prelude.{length-append, ne_eqb, eqb-true}
-use Rattle.table.specs.{declared.answer.Answer.TheVariants.Accepted, declared.header.Form.Form, Bytes.Bytes, Bytes.u16, Bytes.u32, Bytes.u64}
+use Rattle.table.specs.{declared.header.Form.Form, Bytes.Bytes, Bytes.u16, Bytes.u32, Bytes.u64}
 use Rattle.table.specs.{Header.newest_version, Header.version, Header.form_of, Header.total, Header.count, Header.root, Header.mark_right, Nodes.node_at}
 use Rattle.table.specs.{Nodes.child_count_at, Nodes.node_right, Forest.Forest, Forest.first_trees, Forest.other_trees, Forest.node_over, Forest.trees}
 use Rattle.table.specs.{Forest.forest_of, Forest.nodes, Checked.checked, Ends.from, Reading.conditions, Reading.tree_of}
@@ -15,6 +15,7 @@ use Rattle.table.specs.{Laws.Header.HeaderRight, Laws.Forest.flat-trees, Laws.Ac
 use Rattle.table.specs.{Laws.Accepted.tree_sorts}
 use Rattle.roundtrip.specs.{Laws.Reading.many_conditions, Laws.Writing.Right, Laws.Writing.written_all, Laws.OwnBytes.all_one, Laws.NodeBytes.node_long}
 use Rattle.roundtrip.specs.{Laws.WrittenForest.condition_long}
+use Rattle.table.specs.{Outcome.accepts}
 
 -- ---- each tree
 
@@ -33,7 +34,7 @@ right_trees t (suc m) i h =
     let g = right_first (form_of t) (child_count_at t i) (trees t m (i + 1)) (right_trees t m (i + 1) (λ j lo hi. h j (omega arith) (omega arith))) in
     (h i (omega arith) (omega arith), g.0, g.1)
 
-module _ (t : List ℕ) (n r : ℕ) (ok : checked t ≡ Accepted n r) where
+module _ (t : List ℕ) (n r : ℕ) (ok : checked t ≡ accepts n r) where
   -- The trees of an accepted table, written in prefix order, are the table's own nodes.
   pub tree_written : (x : ℕ) → x < 4 → 0 < count t x → write_condition (tree_of t x) ≡ nodes_bytes (nodes t (count t x) (root t x))
   unfolding tree_of forest_of root
@@ -65,7 +66,7 @@ unfolding write_short nodes_of_short
 short_long absent = refl
 short_long (given c) = condition_long c
 
-module _ (t : List ℕ) (n r : ℕ) (ok : checked t ≡ Accepted n r) where
+module _ (t : List ℕ) (n r : ℕ) (ok : checked t ≡ accepts n r) where
   pub tree_nodes : (x : ℕ) → x < 4 → 0 < count t x → nodes_of (tree_of t x) ≡ count t x
   tree_nodes x l some = omega (arith, condition_long (tree_of t x), ap length (tree_written t n r ok x l some), nodes_long t (count t x) (root t x))
 
@@ -143,7 +144,7 @@ module _ (t : List ℕ) (small : Bytes t) where
 
 -- ---- the whole table
 
-module _ (t : List ℕ) (small : Bytes t) (n r : ℕ) (ok : checked t ≡ Accepted n r) where
+module _ (t : List ℕ) (small : Bytes t) (n r : ℕ) (ok : checked t ≡ accepts n r) where
   abbrev b : ℕ → ℕ
   b = byte t small
 

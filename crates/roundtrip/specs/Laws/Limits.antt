@@ -1,9 +1,9 @@
 -- What an accepted table holds is within the paper's limits.
 -- Assumes nothing.
-use Rattle.std.specs.Prelude.{◌≡◌, true, List, [], ◌∷◌, ℕ, zero, suc, ◌≤◌, ◌<◌, length, replicate, leb}
+use Rattle.std.specs.Prelude.{◌≡◌, true, List, [], ◌∷◌, ℕ, zero, suc, ◌≤◌, ◌<◌, length, replicate, leb, None}
 use Rattle.words.specs.Prelude.{sym, ◌∙◌, ap, subst, arith, ltb-true, leb-true}
 use Rattle.words.specs.{Limits.most_reach}
-use Rattle.table.specs.{declared.nodes.Node.Node, declared.kinds.Kind.Kind, declared.header.Form.Form, declared.places.Place.TheVariants.Nowhere, Kinds.kind_of}
+use Rattle.table.specs.{declared.nodes.Node.Node, declared.kinds.Kind.Kind, declared.header.Form.Form, Kinds.kind_of}
 use Rattle.table.specs.{Kinds.constant, Kinds.reference, Kinds.extremum, Kinds.bars_since, Nodes.child_count, Nodes.n_right, Nodes.constant_right, Nodes.own_right}
 use Rattle.table.specs.{Forest.Forest, Forest.sorts, Forest.Sorted, Nesting.deeper, Trees.Operand, Trees.const, Trees.ref, Trees.price, Trees.prev}
 use Rattle.table.specs.{Trees.arith as sums, Trees.extreme, Trees.Condition, Trees.Conditions, Trees.none, Trees.more, Series.as_series, Reading.child}
@@ -76,12 +76,12 @@ module _ (form : Form) (l : ℕ) (n : Node) (os : List Operand) (right : own_rig
       let leaf = leaf_within form (as_series (child os 0)) (subst (Within form) (series r) a.0) in
       rw r ((r, o.version, leb-true _ _ n-right.0, leb-true _ _ n-right.1, leaf), omega (arith, some_level (child os 0), a.1))
 
-no_level : (n : Node) (below rest : Forest) → deeper 0 (Forest.tree n below rest) ≡ Nowhere → ⊥
+no_level : (n : Node) (below rest : Forest) → deeper 0 (Forest.tree n below rest) ≡ None → ⊥
 unfolding deeper
 no_level n below rest h = never_at n.number h
 
-both_levels : (l : ℕ) (n : Node) (below rest : Forest) → deeper (suc l) (Forest.tree n below rest) ≡ Nowhere
-    → (deeper l below ≡ Nowhere) × (deeper (suc l) rest ≡ Nowhere)
+both_levels : (l : ℕ) (n : Node) (below rest : Forest) → deeper (suc l) (Forest.tree n below rest) ≡ None
+    → (deeper l below ≡ None) × (deeper (suc l) rest ≡ None)
 unfolding deeper
 both_levels l n below rest h = or_none (deeper l below) (deeper (suc l) rest) h
 
@@ -89,7 +89,7 @@ no_sort : (n : ℕ) (ns : List ℕ) → n ∷ ns ≡ [] → ⊥
 no_sort n ns h = let z : ◌≡◌ {A = ℕ} 0 1 = cc in omega arith
 
 row_fine : (f : Forest) (form : Form) (l m : ℕ) → Right form f → FieldsFit f → Sorted f → sorts f ≡ replicate m 1
-    → deeper l f ≡ Nowhere → Row form l (operands f)
+    → deeper l f ≡ None → Row form l (operands f)
 unfolding Right FieldsFit Sorted sorts operands Row
 row_fine Forest.none form l m r sm so s d = tt
 row_fine (Forest.tree n below rest) form l zero r sm so s d = absurd (no_sort _ _ s)
@@ -159,7 +159,7 @@ module _ (form : Form) (l : ℕ) (n : Node) (below : Forest) (right : own_right 
   fine_condition (a_position e r) = rw r (tt, omega arith)
   fine_condition (a_count e r) = rw r (((own_of bars_since r).selector, small.n), omega arith)
 
-pub all_fine : (f : Forest) (form : Form) (l m : ℕ) → Right form f → FieldsFit f → Sorted f → sorts f ≡ replicate m 2 → deeper l f ≡ Nowhere
+pub all_fine : (f : Forest) (form : Form) (l m : ℕ) → Right form f → FieldsFit f → Sorted f → sorts f ≡ replicate m 2 → deeper l f ≡ None
     → WithinAll form (conditions f) × (levels_of_all (conditions f) ≤ l)
 unfolding Right FieldsFit Sorted sorts conditions WithinAll levels_of_all
 all_fine Forest.none form l m r sm so s d = (tt, omega arith)

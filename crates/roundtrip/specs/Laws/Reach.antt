@@ -2,7 +2,7 @@
 -- Assumes nothing.
 use Rattle.std.specs.Prelude.{◌≡◌, refl, List, [], ◌∷◌, ℕ, zero, suc, ◌+◌, ◌<◌, max, length, replicate}
 use Rattle.words.specs.Prelude.{◌∙◌, ap, ⊎_elim, arith, eq-zero-or-pos}
-use Rattle.table.specs.{declared.nodes.Node.Node, declared.kinds.Kind.Kind, declared.answer.Answer.TheVariants.Accepted, Kinds.kind_of, Kinds.extremum}
+use Rattle.table.specs.{declared.nodes.Node.Node, declared.kinds.Kind.Kind, Kinds.kind_of, Kinds.extremum}
 use Rattle.table.specs.{Header.count, Nodes.child_count, Forest.Forest, Forest.trees, Forest.forest_of, Forest.sorts, Forest.Sorted, Reach.back, Reach.own_back}
 use Rattle.table.specs.{Reach.weigh, Reach.forest_reach, Reach.tree_reach, Reach.rows_needed, Checked.checked, Trees.Operand, Trees.Conditions, Trees.none}
 use Rattle.table.specs.{Trees.more, Trees.reach, Trees.reach_of, Trees.reach_of_all, Reading.child, Reading.operand_by, Reading.operand_from, Reading.operands}
@@ -14,6 +14,7 @@ use Rattle.table.specs.{Laws.Kinds.a_count, Laws.Kinds.condition_kind, Laws.Acce
 use Rattle.roundtrip.specs.{Laws.Series.IsSeries, Laws.Series.series_child, Laws.Series.leaf_reach, Laws.Reading.many_conditions, Laws.Reading.row_below}
 use Rattle.roundtrip.specs.{Laws.Reading.under_by, Laws.Reading.some_conditions}
 use Rattle.roundtrip.specs.{Laws.Reading.row_none, Laws.Reading.row_one, Laws.Reading.row_two, Laws.Reading.row_three, Laws.Reading.operands_below}
+use Rattle.table.specs.{Outcome.accepts}
 
 -- the greatest reach of operands in a row
 unfoldable pub reach_of_row : List Operand → ℕ
@@ -127,17 +128,17 @@ absent_reach : (t : List ℕ) (x : ℕ) → count t x ≡ 0 → tree_reach t x �
 unfolding tree_reach forest_reach tree_of forest_of trees weigh conditions first_of reach_of
 absent_reach t x h = rw h
 
-there_reach : (t : List ℕ) (n r x : ℕ) → checked t ≡ Accepted n r → x < 4 → 0 < count t x → tree_reach t x ≡ reach_of (tree_of t x)
+there_reach : (t : List ℕ) (n r x : ℕ) → checked t ≡ accepts n r → x < 4 → 0 < count t x → tree_reach t x ≡ reach_of (tree_of t x)
 unfolding tree_reach forest_reach tree_of
 there_reach t n r x ok l some =
     let g = tree_sorts t n r ok x l some in
     all_reach (forest_of t x) 1 g.1 g.0 ∙ conditions_one (conditions (forest_of t x)) (many_conditions (forest_of t x) ∙ ap length g.0)
 
-pub tree_reach_is : (t : List ℕ) (n r x : ℕ) → checked t ≡ Accepted n r → x < 4 → tree_reach t x ≡ reach_of (tree_of t x)
+pub tree_reach_is : (t : List ℕ) (n r x : ℕ) → checked t ≡ accepts n r → x < 4 → tree_reach t x ≡ reach_of (tree_of t x)
 tree_reach_is t n r x ok l = ⊎_elim (absent_reach t x) (there_reach t n r x ok l) (eq-zero-or-pos (count t x))
 
 -- "rows = greatest reach + 1", in the trees' terms
-pub rows_are : (t : List ℕ) (n r : ℕ) → checked t ≡ Accepted n r
+pub rows_are : (t : List ℕ) (n r : ℕ) → checked t ≡ accepts n r
     → r ≡ max (max (reach_of (tree_of t 0)) (reach_of (tree_of t 1))) (max (reach_of (tree_of t 2)) (reach_of (tree_of t 3))) + 1
 unfolding rows_needed
 rows_are t n r ok =

@@ -1,23 +1,24 @@
 -- Laws for whoever walks an accepted table's trees with its array of ends: what stands below a node and after it, and what it
 -- reads as. `WholeTree` is of Accepted, `tree_whole` gives it for each tree of an accepted table.
 -- Assumes nothing.
-use Rattle.std.specs.Prelude.{◌≡◌, refl, List, [], ◌∷◌, ℕ, zero, suc, ◌+◌, ◌-◌, ◌≤◌, ◌<◌, replicate}
+use Rattle.std.specs.Prelude.{◌≡◌, refl, List, [], ◌∷◌, ℕ, zero, suc, ◌+◌, ◌-◌, ◌≤◌, ◌<◌, replicate, None}
 use Rattle.words.specs.Prelude.{sym, ◌∙◌, ap, arith, eq-zero-or-pos, ⊎_elim}
 use Rattle.words.specs.{Limits.most_nesting}
-use Rattle.table.specs.{declared.nodes.Node.Node, declared.answer.Answer.TheVariants.Accepted, declared.places.Place.TheVariants.Nowhere, Header.count}
+use Rattle.table.specs.{declared.nodes.Node.Node, Header.count}
 use Rattle.table.specs.{Header.root, Nodes.node_at, Nodes.sort_at, Nodes.child_count_at, Nodes.child_sort_at, Order.or_place, Forest.Forest, Forest.forest_of}
 use Rattle.table.specs.{Forest.first_trees, Forest.other_trees, Forest.node_over, Forest.trees, Forest.sorts, Forest.Sorted, Nesting.deeper, Checked.checked}
 use Rattle.table.specs.{Ends.Link, Trees.none, Trees.more, Reading.tree_of, Reading.child, Reading.operand_from, Reading.operands, Reading.first_of}
 use Rattle.table.specs.{Reading.condition_from, Reading.conditions, Reading.operands_at, Reading.conditions_at, Reading.operand_at, Reading.condition_at}
 use Rattle.table.specs.{Laws.Forest.left_suc, Laws.Forest.left_zero, Laws.Forest.first_none, Laws.Order.never_at, Laws.Accepted.or_none}
 use Rattle.table.specs.{Laws.Accepted.WholeTree, Laws.Accepted.tree_sorts, Laws.Accepted.tree_nesting}
+use Rattle.table.specs.{Outcome.accepts}
 
 -- ---- what stands where
 
 -- k trees of sort s stand at node j, none of them deeper than l levels
 pub record Stands (t : List ℕ) (e j k s l : ℕ) : Type 0 where
   pub sorted : sorts (first_trees k (trees t (e - j) j)) ≡ replicate k s
-  pub shallow : deeper l (first_trees k (trees t (e - j) j)) ≡ Nowhere
+  pub shallow : deeper l (first_trees k (trees t (e - j) j)) ≡ None
 
 -- the node at i, over its children, and the trees after it
 node_first : (t : List ℕ) (e i : ℕ) → i < e
@@ -33,8 +34,8 @@ no_sort : (k s : ℕ) → sorts (first_trees (suc k) Forest.none) ≡ replicate 
 unfolding sorts first_trees
 no_sort k s h = let z : ◌≡◌ {A = ℕ} 0 1 = cc in omega arith
 
-deep_two : (l k : ℕ) (f : Forest) → deeper l (first_trees (suc k) f) ≡ Nowhere
-    → (deeper l (first_trees 1 f) ≡ Nowhere) × (deeper l (first_trees k (other_trees 1 f)) ≡ Nowhere)
+deep_two : (l k : ℕ) (f : Forest) → deeper l (first_trees (suc k) f) ≡ None
+    → (deeper l (first_trees 1 f) ≡ None) × (deeper l (first_trees k (other_trees 1 f)) ≡ None)
 unfolding deeper first_trees other_trees or_place
 deep_two l k Forest.none h = (refl, ap (deeper l) (first_none k))
 deep_two zero k (Forest.tree n below rest) h = absurd (never_at n.number h)
@@ -48,7 +49,7 @@ unfolding sorts first_trees other_trees
 sorts_two k s Forest.none h = absurd (no_sort k s h)
 sorts_two k s (Forest.tree n below rest) h = (cc, cc)
 
-deep_below : (l : ℕ) (n : Node) (f g : Forest) → deeper l (Forest.tree n f g) ≡ Nowhere → (0 < l) × (deeper (l - 1) f ≡ Nowhere)
+deep_below : (l : ℕ) (n : Node) (f g : Forest) → deeper l (Forest.tree n f g) ≡ None → (0 < l) × (deeper (l - 1) f ≡ None)
 unfolding deeper
 deep_below zero n f g h = absurd (never_at n.number h)
 deep_below (suc l) n f g h =
@@ -82,7 +83,7 @@ module _ (t : List ℕ) (e j k s l : ℕ) (here : Stands t e j (suc k) s l) wher
     shallow = ap (λ (f : Forest). deeper l (first_trees k f)) (sym link.next) ∙ (deep_two l k _ here.shallow).1;
   }
 
-  below_two : (0 < l) × (deeper (l - 1) (first_trees (child_count_at t j) (trees t (e - (j + 1)) (j + 1))) ≡ Nowhere)
+  below_two : (0 < l) × (deeper (l - 1) (first_trees (child_count_at t j) (trees t (e - (j + 1)) (j + 1))) ≡ None)
   unfolding first_trees node_over
   below_two = deep_below l _ _ _ (ap (λ (f : Forest). deeper l (first_trees (suc k) f)) (sym split) ∙ here.shallow)
 
@@ -176,7 +177,7 @@ module _ (t : List ℕ) (x : ℕ) where
   unfolding tree_of forest_of condition_at conditions_at
   tree_reads = rw nodes_of (first_is (trees t (count t x) (root t x)))
 
-  pub tree_stands : (n r : ℕ) → checked t ≡ Accepted n r → x < 4 → 0 < count t x → Stands t (root t (suc x)) (root t x) 1 2 most_nesting
+  pub tree_stands : (n r : ℕ) → checked t ≡ accepts n r → x < 4 → 0 < count t x → Stands t (root t (suc x)) (root t x) 1 2 most_nesting
   unfolding forest_of
   tree_stands n r ok l some =
       let g = tree_sorts t n r ok x l some in

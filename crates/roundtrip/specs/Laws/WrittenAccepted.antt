@@ -1,10 +1,9 @@
 -- The table of a rule within the limits breaks no rule, and holds that rule.
 -- Assumes nothing.
-use Rattle.std.specs.Prelude.{◌≡◌, refl, true, false, List, [], ◌++◌, ℕ, zero, suc, ◌+◌, ◌*◌, ◌≤◌, max, length, ltb, eqb}
+use Rattle.std.specs.Prelude.{◌≡◌, refl, true, false, List, [], ◌++◌, ℕ, zero, suc, ◌+◌, ◌*◌, ◌≤◌, max, length, ltb, eqb, None, Option}
 use Rattle.words.specs.Prelude.{sym, ◌∙◌, ap, subst, append-nil, append_assoc, arith}
 use Rattle.words.specs.Prelude.{length-append, le-ltb, le-leb, eq-eqb}
 use Rattle.words.specs.{Limits.most_slots, Limits.most_nesting, Limits.most_nodes}
-use Rattle.table.specs.{declared.places.Place.Place, declared.places.Place.TheVariants.Nowhere, declared.answer.Answer.TheVariants.Accepted}
 use Rattle.table.specs.{declared.header.Form.Form, Bytes.u16, Header.newest_version, Header.slots, Header.version, Header.form_of, Header.total, Header.count}
 use Rattle.table.specs.{Header.root, Header.mark_right, Header.version_right, Header.counts_right, Header.header_refusal, Nodes.wrong_node, Order.misfit}
 use Rattle.table.specs.{Order.misfits, Order.or_place, Order.of_four, Forest.Forest, Forest.trees, Forest.forest_of, Nesting.deeper, Nesting.too_deep}
@@ -17,6 +16,7 @@ use Rattle.roundtrip.specs.{Laws.WrittenForestRead.reads_of, Laws.WrittenTrees.w
 use Rattle.roundtrip.specs.{Laws.WrittenTrees.short_grows, Laws.WrittenTrees.TreeHolds, Laws.WrittenTrees.planted, Laws.WrittenTrees.held_deep}
 use Rattle.roundtrip.specs.{Laws.WrittenTrees.held_reach, Laws.WrittenTrees.held_near, Laws.WrittenTrees.held_fits, Laws.WrittenTrees.held_right}
 use Rattle.roundtrip.specs.{Laws.WrittenTrees.held_reads, Laws.WrittenForest.some_nodes, Laws.WrittenForest.condition_long}
+use Rattle.table.specs.{Outcome.accepts}
 
 module _ (form : Form) (r : Rule) where
   abbrev t : List ℕ
@@ -164,17 +164,17 @@ module _ (form : Form) (r : Rule) where
     held_3 : TreeHolds t form 3 r.short_exit
     held_3 = held 3 _ r.short_exit [] root_3 w.short_exit count_3 from_3
 
-    none_of_four : (f : ℕ → Place) → f 0 ≡ Nowhere → f 1 ≡ Nowhere → f 2 ≡ Nowhere → f 3 ≡ Nowhere → of_four f ≡ Nowhere
+    none_of_four : (f : ℕ → Option ℕ) → f 0 ≡ None → f 1 ≡ None → f 2 ≡ None → f 3 ≡ None → of_four f ≡ None
     unfolding of_four or_place
     none_of_four f a b c d = rw (a, b, c, d)
 
-    two_at : (a b j : ℕ) → a ≡ j → wrong_node t a 0 ≡ Nowhere → wrong_node t b j ≡ Nowhere → wrong_node t (a + b) 0 ≡ Nowhere
-    two_at a b j same h g = wrong_two t a b 0 h (subst (λ (x : ℕ). wrong_node t b x ≡ Nowhere) (place a j same) g)
+    two_at : (a b j : ℕ) → a ≡ j → wrong_node t a 0 ≡ None → wrong_node t b j ≡ None → wrong_node t (a + b) 0 ≡ None
+    two_at a b j same h g = wrong_two t a b 0 h (subst (λ (x : ℕ). wrong_node t b x ≡ None) (place a j same) g)
       where
         place : (a j : ℕ) → a ≡ j → j ≡ 0 + a
         place a j same = omega arith
 
-    all_right : wrong_node t (total t) 0 ≡ Nowhere
+    all_right : wrong_node t (total t) 0 ≡ None
     unfolding root
     all_right =
         let sum : total t ≡ count t 0 + count t 1 + count t 2 + count t 3 = omega (arith, total_is, count_0, count_1, count_2, count_3, sums_are) in
@@ -191,7 +191,7 @@ module _ (form : Form) (r : Rule) where
     rows_of = rw (held_reach t form 0 _ held_0, held_reach t form 1 _ held_1, held_reach t form 2 _ held_2, held_reach t form 3 _ held_3)
 
     pub is_accepted : checked t
-        ≡ Accepted (nodes_of_rule r)
+        ≡ accepts (nodes_of_rule r)
         (max (max (reach_of r.entry) (reach_of r.exit)) (max (reach_of_short r.short_entry) (reach_of_short r.short_exit)) + 1)
     unfolding misfits too_deep too_far
     is_accepted = all_kept t _ _ (record {

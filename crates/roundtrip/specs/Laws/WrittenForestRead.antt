@@ -1,9 +1,9 @@
 -- The forest of a tree within the limits is no deeper than the tree, and reads as the tree.
 -- Assumes nothing.
-use Rattle.std.specs.Prelude.{◌≡◌, refl, Bool, true, false, cond, List, [], ◌∷◌, ℕ, zero, suc, ◌+◌, ◌-◌, ◌≤◌, ◌<◌, eqb}
+use Rattle.std.specs.Prelude.{◌≡◌, refl, Bool, true, false, cond, List, [], ◌∷◌, ℕ, zero, suc, ◌+◌, ◌-◌, ◌≤◌, ◌<◌, eqb, None}
 use Rattle.words.specs.Prelude.{◌∙◌, ap, arith}
 use Rattle.table.specs.{declared.nodes.Node.Node, declared.header.Form.Form, declared.series.Series.Series, declared.series.Series.TheVariants.Price}
-use Rattle.table.specs.{declared.series.Series.TheVariants.Slot, declared.places.Place.TheVariants.Nowhere, Kinds.kinds, Kinds.kind_of, Order.or_place}
+use Rattle.table.specs.{declared.series.Series.TheVariants.Slot, Kinds.kinds, Kinds.kind_of, Order.or_place}
 use Rattle.table.specs.{Forest.Forest, Nesting.deeper, Trees.Operand, Trees.const, Trees.ref, Trees.price, Trees.prev, Trees.arith as sums, Trees.extreme}
 use Rattle.table.specs.{Trees.Condition, Trees.Conditions, Trees.compare, Trees.cross, Trees.between, Trees.trend, Trees.every, Trees.any, Trees.negated}
 use Rattle.table.specs.{Trees.in_position, Trees.bars_since, Trees.none, Trees.more, Reading.child, Reading.operand_by, Reading.operand_from, Reading.operands}
@@ -13,7 +13,7 @@ use Rattle.roundtrip.specs.{Laws.WrittenForest.plant_series, Laws.WrittenForest.
 
 -- ---- depth
 
-one_level : (n : Node) (l : ℕ) (below rest : Forest) → 0 < l → deeper (l - 1) below ≡ Nowhere → deeper l (Forest.tree n below rest) ≡ deeper l rest
+one_level : (n : Node) (l : ℕ) (below rest : Forest) → 0 < l → deeper (l - 1) below ≡ None → deeper l (Forest.tree n below rest) ≡ deeper l rest
 unfolding deeper or_place
 one_level n zero below rest h b = absurd (never h)
   where
@@ -23,11 +23,11 @@ one_level n (suc l) below rest h b =
     let same : l ≡ suc l - 1 = omega arith in
     rw (ap (λ (m : ℕ). deeper m below) same ∙ b)
 
-no_levels : (l : ℕ) → deeper l Forest.none ≡ Nowhere
+no_levels : (l : ℕ) → deeper l Forest.none ≡ None
 unfolding deeper
 no_levels l = refl
 
-shallow_series : (s : Series) (i l : ℕ) → 1 ≤ l → deeper l (plant_series i s) ≡ Nowhere
+shallow_series : (s : Series) (i l : ℕ) → 1 ≤ l → deeper l (plant_series i s) ≡ None
 unfolding plant_series
 shallow_series (Price x) i l h = one_level _ l Forest.none Forest.none (omega arith) (no_levels (l - 1)) ∙ no_levels l
 shallow_series (Slot x) i l h = one_level _ l Forest.none Forest.none (omega arith) (no_levels (l - 1)) ∙ no_levels l

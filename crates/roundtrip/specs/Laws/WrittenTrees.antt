@@ -1,10 +1,10 @@
 -- A tree within the limits, or none, that a table holds: it breaks no rule there, and is read back.
 -- Assumes nothing.
-use Rattle.std.specs.Prelude.{◌≡◌, refl, Bool, true, false, cond, not, List, [], ◌∷◌, ◌++◌, ℕ, zero, suc, ◌+◌, ◌≤◌, replicate, eqb}
+use Rattle.std.specs.Prelude.{◌≡◌, refl, Bool, true, false, cond, not, List, [], ◌∷◌, ◌++◌, ℕ, zero, suc, ◌+◌, ◌≤◌, replicate, eqb, None}
 use Rattle.words.specs.Prelude.{sym, ◌∙◌, ap, subst, arith, add-zero}
 use Rattle.words.specs.Prelude.{suc-add, le-ltb, eq-eqb, ne_eqb}
 use Rattle.words.specs.{Limits.most_nesting, Limits.most_reach}
-use Rattle.table.specs.{declared.places.Place.TheVariants.Nowhere, declared.header.Form.Form, Kinds.kind_of, Kinds.takes_series, Header.form_of, Header.count}
+use Rattle.table.specs.{declared.header.Form.Form, Kinds.kind_of, Kinds.takes_series, Header.form_of, Header.count}
 use Rattle.table.specs.{Header.root, Nodes.node_at, Nodes.node_right, Nodes.wrong_node, Nodes.sort_at, Nodes.child_count, Nodes.child_count_at, Nodes.child_sort_at}
 use Rattle.table.specs.{Nodes.child_fits, Nodes.child_fits_at, Order.fits, Order.misfit, Forest.Forest, Forest.first_trees, Forest.other_trees, Forest.node_over}
 use Rattle.table.specs.{Forest.trees, Forest.forest_of, Forest.sorts, Forest.Fitting, Forest.Sorted, Nesting.deeper, Reach.weigh, Reach.own_back}
@@ -35,7 +35,7 @@ sorts_join zero f = refl
 sorts_join (suc l) Forest.none = refl
 sorts_join (suc l) (Forest.tree n below rest) = ap (λ (x : List ℕ). (kind_of n.kind).sort ∷ x) (sorts_join l rest)
 
-no_wrong : (t : List ℕ) (m i : ℕ) → Right (form_of t) (trees t m i) → wrong_node t m i ≡ Nowhere
+no_wrong : (t : List ℕ) (m i : ℕ) → Right (form_of t) (trees t m i) → wrong_node t m i ≡ None
 unfolding Right trees node_over wrong_node node_right
 no_wrong t zero i r = refl
 no_wrong t (suc m) i r = rw r.0 (no_wrong t m (i + 1) (right_join (form_of t) (child_count_at t i) (trees t m (i + 1)) r.1 r.2))
@@ -68,7 +68,7 @@ first_child t m i under fit = go (takes_series (kind_of (node_at t i).kind).seri
     go true is = series_below t m i (rw (over_one t i is) at under) (rw (over_one t i is) at fit)
     go false other = any_below t i other
 
-in_order : (t : List ℕ) (m i : ℕ) → Sorted (trees t m i) → fits t m i (sorts (trees t m i)) ≡ Nowhere
+in_order : (t : List ℕ) (m i : ℕ) → Sorted (trees t m i) → fits t m i (sorts (trees t m i)) ≡ None
 unfolding Sorted trees node_over fits sorts sort_at child_count_at child_sort_at
 in_order t zero i s = refl
 in_order t (suc m) i s =
@@ -79,7 +79,7 @@ in_order t (suc m) i s =
     ap (λ (l : List ℕ). l ++ sorts (other_trees (child_count_at t i) f)) (sym s.0) ∙ sorts_join (child_count_at t i) f in
     rw (same, first_child t m i s.0 s.3) (ap (fits t m (i + 1)) row ∙ in_order t m (i + 1) (sorted_join (child_count_at t i) f s.1 s.2))
 
-pub wrong_two : (t : List ℕ) (a b i : ℕ) → wrong_node t a i ≡ Nowhere → wrong_node t b (i + a) ≡ Nowhere → wrong_node t (a + b) i ≡ Nowhere
+pub wrong_two : (t : List ℕ) (a b i : ℕ) → wrong_node t a i ≡ None → wrong_node t b (i + a) ≡ None → wrong_node t (a + b) i ≡ None
 unfolding wrong_node
 wrong_two t zero b i h g =
     let zero-b : 0 + b ≡ b = omega arith in
@@ -118,7 +118,7 @@ unfolding ShortWithin plant_short Right
 short_right form absent i w = tt
 short_right form (given c) i w = right_of form c i Forest.none w.fields tt
 
-short_shallow : (form : Form) (s : Short) (i : ℕ) → ShortWithin form s → deeper most_nesting (plant_short i s) ≡ Nowhere
+short_shallow : (form : Form) (s : Short) (i : ℕ) → ShortWithin form s → deeper most_nesting (plant_short i s) ≡ None
 unfolding ShortWithin plant_short deeper
 short_shallow form absent i w = refl
 short_shallow form (given c) i w = shallow_of c i most_nesting Forest.none w.nesting
@@ -136,7 +136,7 @@ short_reach form absent i w = (refl, omega arith)
 short_reach form (given c) i w = (given_reach form c i w.fields, w.reaches)
 
 short_fits : (t : List ℕ) (form : Form) (s : Short) (i : ℕ) → ShortWithin form s
-    → trees t (nodes_of_short s) i ≡ plant_short i s → misfit t (nodes_of_short s) i ≡ Nowhere
+    → trees t (nodes_of_short s) i ≡ plant_short i s → misfit t (nodes_of_short s) i ≡ None
 unfolding ShortWithin nodes_of_short plant_short misfit
 short_fits t form absent i w h = refl
 short_fits t form (given c) i w h =
@@ -163,21 +163,21 @@ module _ (t : List ℕ) (form : Form) (x : ℕ) (s : Short) (h : TreeHolds t for
   unfolding forest_of
   planted = ap (λ (m : ℕ). trees t m (root t x)) h.many ∙ h.forest
 
-  pub held_deep : deeper most_nesting (forest_of t x) ≡ Nowhere
+  pub held_deep : deeper most_nesting (forest_of t x) ≡ None
   held_deep = ap (deeper most_nesting) planted ∙ short_shallow form s (root t x) h.within
 
   pub held_reach : tree_reach t x ≡ reach_of_short s
   unfolding tree_reach
   held_reach = ap forest_reach planted ∙ (short_reach form s (root t x) h.within).0
 
-  pub held_near : far_at (tree_reach t x) (root t x) ≡ Nowhere
+  pub held_near : far_at (tree_reach t x) (root t x) ≡ None
   unfolding far_at
   held_near = rw held_reach (rw (le-ltb most_reach (reach_of_short s) (short_reach form s (root t x) h.within).1))
 
-  pub held_fits : misfit t (count t x) (root t x) ≡ Nowhere
+  pub held_fits : misfit t (count t x) (root t x) ≡ None
   held_fits = ap (λ (m : ℕ). misfit t m (root t x)) h.many ∙ short_fits t form s (root t x) h.within h.forest
 
-  pub held_right : form_of t ≡ form → wrong_node t (count t x) (root t x) ≡ Nowhere
+  pub held_right : form_of t ≡ form → wrong_node t (count t x) (root t x) ≡ None
   held_right same =
       no_wrong t (count t x) (root t x)
       (subst (λ (f : Form). Right f (trees t (count t x) (root t x))) (sym same)

@@ -2,7 +2,7 @@
 use Rattle.std.specs.Prelude.{ℕ, zero, suc, ◌+◌, ◌-◌, ◌≤◌, ◌<◌, ◌≡◌, List, get_or}
 use Rattle.words.specs.Prelude.{sym, ap, ◌∙◌, arith, lt-ltb, lt-leb}
 use Rattle.words.specs.{Limits.most_nesting, Limits.most_nodes}
-use Rattle.table.specs.{declared.kinds.Kind.Kind, declared.answer.Answer.TheVariants.Accepted, Kinds.kind_of, Laws.Kinds.OperandKind, Laws.Kinds.a_const}
+use Rattle.table.specs.{declared.kinds.Kind.Kind, Kinds.kind_of, Laws.Kinds.OperandKind, Laws.Kinds.a_const}
 use Rattle.table.specs.{Laws.Kinds.a_ref, Laws.Kinds.a_price, Laws.Kinds.a_prev, Laws.Kinds.an_arith, Laws.Kinds.an_extreme, Laws.Kinds.operand_kind}
 use Rattle.table.specs.{Laws.Kinds.ConditionKind, Laws.Kinds.a_compare, Laws.Kinds.a_cross, Laws.Kinds.a_between, Laws.Kinds.a_trend, Laws.Kinds.an_all}
 use Rattle.table.specs.{Laws.Kinds.an_any, Laws.Kinds.a_not, Laws.Kinds.a_position, Laws.Kinds.a_count, Laws.Kinds.condition_kind, Header.count, Header.root}
@@ -16,6 +16,7 @@ use Rattle.roundtrip.specs.{Laws.Walking.condition_is, Laws.Walking.tree_reads, 
 use Rattle.rules.specs.{Shapes.end_in, Shapes.operand_of, Shapes.condition_of, Shapes.operand_shape, Shapes.condition_shape, Flat.grow_operand}
 use Rattle.rules.specs.{Flat.flat_operand_at, Flat.grow_conditions, Flat.group as group_of, Flat.grow_condition, Flat.flat_condition_at}
 use Rattle.table.specs.Reading as Reading
+use Rattle.table.specs.{Outcome.accepts}
 
 -- the shape of a node that is there
 operand_node : (t ends : List ℕ) (i : ℕ) → i < most_nodes
@@ -203,7 +204,7 @@ module _ (t ends : List ℕ) (b e : ℕ) (whole : WholeTree t ends b e) where
       condition_level left (condition_joined left) i here lo (condition_kind (node_at t i).kind (sort_there t e i 0 2 (suc left) here))
 
 -- THE JOIN: tree x of an accepted table, read at its root with 32 levels of nesting and the array beside the answer.
-pub tree_joined : (t : List ℕ) (n r : ℕ) → checked t ≡ Accepted n r → (x : ℕ) → x < 4 → 0 < count t x
+pub tree_joined : (t : List ℕ) (n r : ℕ) → checked t ≡ accepts n r → (x : ℕ) → x < 4 → 0 < count t x
     → flat_condition_at most_nesting t (ends_beside t) (root t x) ≡ tree_of t x
 tree_joined t n r ok x l some =
     rw (ends_of t n r ok)

@@ -1,14 +1,13 @@
 -- Two boxes with the same account and the same last D rows, and a bar that both take.
-use Rattle.std.specs.Prelude.{ℕ, ◌≡◌, refl, List}
+use Rattle.std.specs.Prelude.{ℕ, ◌≡◌, refl, List, Ok}
 use Rattle.words.specs.Prelude.{sym, ◌∙◌}
 use Rattle.records.specs.{declared.settings.Settings.Settings, declared.state.State.State, Lent.Lists, Lent.Rooms}
-use Rattle.refusals.specs.{declared.verdict.Verdict.TheVariants.Fine}
 use Rattle.engine.specs.{Boxes.Follows, Boxes.Sound, Boxes.SameCounts, Boxes.Alike, Boxes.SameButRows, Step.stepped, Step.step_verdict, Whole.account_of}
 use Rattle.engine.specs.{Whole.rows_held}
 use Rattle.runs.specs.{Laws.Counts.step_within, Laws.Counts.step_lengths, Laws.Follows.step_follows, Laws.Follows.step_grows}
 
 module _ (s : Settings) (ls : Lists) (t : State) (m : Rooms) (t' : State) (m' : Rooms) (bar : List ℕ) (alike : Alike s t m t' m')
-    (fine : step_verdict s t bar m ls ≡ Fine) (fine' : step_verdict s t' bar m' ls ≡ Fine) where
+    (fine : step_verdict s t bar m ls ≡ Ok tt) (fine' : step_verdict s t' bar m' ls ≡ Ok tt) where
   -- both follow the first
   one : Follows s t m (account_of t) (rows_held s t m)
   one = record { account = refl; window = refl }

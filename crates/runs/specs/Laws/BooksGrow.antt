@@ -1,12 +1,11 @@
 -- The books after a bar are the books before it, its point and its trades at their end, whatever stale words lie behind.
-use Rattle.std.specs.Prelude.{ℕ, ◌+◌, ◌-◌, ◌*◌, ◌/◌, ◌≤◌, ◌<◌, ◌≡◌, refl, List, [], ◌∷◌, ◌++◌, length, take, drop}
+use Rattle.std.specs.Prelude.{ℕ, ◌+◌, ◌-◌, ◌*◌, ◌/◌, ◌≤◌, ◌<◌, ◌≡◌, refl, List, [], ◌∷◌, ◌++◌, length, take, drop, None, Option, Some}
 use Rattle.words.specs.Prelude.{flat_map}
 use Rattle.words.specs.Prelude.{sym, ◌∙◌, append-nil, append_assoc, le-div_iff_mul-le}
 use Rattle.words.specs.Prelude.{suc-mul, add-one, arith, lt-ltb, le-ltb, length-append, take-append-drop, length-take-le, take_at, drop_at}
 use Rattle.words.specs.Prelude.{drop-drop}
 use Rattle.words.specs.{Words.overwrite, Laws.Overwrite.overwrite_fits}
 use Rattle.portfolio.specs.{declared.Candle.Candle, declared.Closed.Closed, declared.Trade.Trade, Trade.words_of_trade}
-use Rattle.execution.specs.{declared.fills.Exit.Exit, declared.fills.Exit.TheVariants.NoExit, declared.fills.Exit.TheVariants.Exited}
 use Rattle.records.specs.{declared.settings.Settings.Settings, declared.state.Position.Position, declared.state.State.State, Lent.Lists, Lent.Rooms}
 use Rattle.records.specs.{Lent.point_places, Lent.trade_places}
 use Rattle.engine.specs.{Books.Point, Books.point_of, Books.words_of_point, Books.trades_of, Books.Held, Books.booked, Books.marked, Books.held_points}
@@ -85,33 +84,33 @@ Added w room n h more words =
 
 -- no trade
 pub none_added : (room : List ℕ) (n : ℕ)
-    → Added Limits.trade_words room n (booked room n NoExit) (length (trades_of NoExit)) (flat_map words_of_trade (trades_of NoExit))
+    → Added Limits.trade_words room n (booked room n None) (length (trades_of None)) (flat_map words_of_trade (trades_of None))
 unfolding booked trades_of flat_map
 none_added room n = (omega arith, sym (append-nil _), refl)
 
 -- a trade, where there is one and a place for it
-pub trade_booked : (room : List ℕ) (n : ℕ) (x : Exit) → n < trade_places room
+pub trade_booked : (room : List ℕ) (n : ℕ) (x : Option Closed) → n < trade_places room
     → Added Limits.trade_words room n (booked room n x) (length (trades_of x)) (flat_map words_of_trade (trades_of x))
 unfolding booked trades_of flat_map
-trade_booked room n NoExit h = none_added room n
-trade_booked room n (Exited c) h =
+trade_booked room n None h = none_added room n
+trade_booked room n (Some c) h =
     let w = written_last Limits.trade_words n room (words_of_trade c.trade) (omega arith) (unfold words_of_trade in refl) h in
     rw (lt-ltb n (trade_places room) h, append-nil) (refl, w.0, w.1)
 
 -- where there is no place, nothing is booked
-pub none_booked : (room : List ℕ) (n : ℕ) (x : Exit) → trade_places room ≤ n → booked room n x ≡ record { count = n; room = room }
+pub none_booked : (room : List ℕ) (n : ℕ) (x : Option Closed) → trade_places room ≤ n → booked room n x ≡ record { count = n; room = room }
 unfolding booked
-none_booked room n NoExit h = refl
-none_booked room n (Exited c) h = rw (le-ltb n (trade_places room) h)
+none_booked room n None h = refl
+none_booked room n (Some c) h = rw (le-ltb n (trade_places room) h)
 
 -- two exits of which the second comes only where the first did not
-two_booked : (room : List ℕ) (n : ℕ) (x y : Exit) → ((c : Closed) → x ≡ Exited c → y ≡ NoExit) → n < trade_places room
+two_booked : (room : List ℕ) (n : ℕ) (x y : Option Closed) → ((c : Closed) → x ≡ Some c → y ≡ None) → n < trade_places room
     → let first = booked room n x in
     let second = booked first.room first.count y in
     Added Limits.trade_words room n second (length (trades_of x ++ trades_of y)) (flat_map words_of_trade (trades_of x ++ trades_of y))
 unfolding booked trades_of
-two_booked room n NoExit y only h = trade_booked room n y h
-two_booked room n (Exited c) y only h = rw (only c refl) (trade_booked room n (Exited c) h)
+two_booked room n None y only h = trade_booked room n y h
+two_booked room n (Some c) y only h = rw (only c refl) (trade_booked room n (Some c) h)
 
 -- a point, where there is a place for it
 point_marked : (room : List ℕ) (n : ℕ) (k : Candle) (p : Position) → n < point_places room

@@ -1,24 +1,24 @@
 -- Two boxes that differ in their rows alone finish alike.
-use Rattle.std.specs.Prelude.{ℕ, ◌+◌, ◌*◌, ◌<◌, ◌≡◌, refl, Bool, true, false, List, ◌++◌, ltb, length, take, drop}
+use Rattle.std.specs.Prelude.{ℕ, ◌+◌, ◌*◌, ◌<◌, ◌≡◌, refl, Bool, true, false, List, ◌++◌, ltb, length, take, drop, None, Ok, Option}
 use Rattle.words.specs.Prelude.{flat_map}
 use Rattle.words.specs.Prelude.{sym, ◌∙◌, ltb-true, ltb-false}
 use Rattle.portfolio.specs.{Trade.words_of_trade}
-use Rattle.execution.specs.{declared.fills.Exit.Exit, declared.fills.Exit.TheVariants.NoExit}
 use Rattle.records.specs.{declared.settings.Settings.Settings, declared.state.State.State, Lent.Rooms, Lent.trade_places}
-use Rattle.refusals.specs.{declared.verdict.Verdict.TheVariants.Fine, Judgement.finish_lines, Judgement.finish_judged, Laws.Lines.first_holds}
+use Rattle.refusals.specs.{Judgement.finish_lines, Judgement.finish_judged, Laws.Lines.first_holds}
 use Rattle.refusals.specs.{Laws.Lines.both_fine, Rooms.room_lines, Rooms.state_lines, Rooms.to_close, Rooms.close_lines, Settings.setting_lines}
 use Rattle.engine.specs.{Books.trades_of, Books.booked, Books.held_points, Books.held_trades, Boxes.SameButRows, Finish.last_exit, Finish.remarked, Finish.end_state}
 use Rattle.engine.specs.{Finish.measured, Finish.ended}
 use Rattle.runs.specs.{Laws.AccountStep.same_parts, Laws.BooksGrow.Added, Laws.BooksGrow.trade_booked, Laws.BooksGrow.none_added}
 use Rattle.runs.specs.{Laws.BooksGrow.none_booked, Laws.LastPoint.remarked_held, Laws.LastPoint.remarked_behind}
 use Rattle.words.specs.Limits as Limits
+use Rattle.portfolio.specs.{declared.Closed.Closed}
 
 -- the trades that a room holds
 abbrev trades_in : List ℕ → ℕ → List ℕ
 trades_in room n = take (n * Limits.trade_words) room
 
 -- a trade booked after the same trades
-same_booked : (room room' : List ℕ) (n n' : ℕ) (x : Exit) → n ≡ n' → trade_places room ≡ trade_places room' → trades_in room n ≡ trades_in room' n'
+same_booked : (room room' : List ℕ) (n n' : ℕ) (x : Option Closed) → n ≡ n' → trade_places room ≡ trade_places room' → trades_in room n ≡ trades_in room' n'
     → let b = booked room n x in
     let b' = booked room' n' x in
     (b.count ≡ b'.count) × (trades_in b.room b.count ≡ trades_in b'.room b'.count)
@@ -73,7 +73,7 @@ module _ (s : Settings) (t : State) (m : Rooms) (t' : State) (m' : Rooms) (same 
 -- ---- what a finish adds to the books
 
 -- a finish that is fine has a place for the trade that it closes
-pub close_place : (s : Settings) (t : State) (m : Rooms) → finish_judged s t m ≡ Fine → to_close t ≡ true → t.counts.trades < trade_places m.trades
+pub close_place : (s : Settings) (t : State) (m : Rooms) → finish_judged s t m ≡ Ok tt → to_close t ≡ true → t.counts.trades < trade_places m.trades
 unfolding finish_judged finish_lines close_lines
 close_place s t m fine closes =
     let a = (both_fine (room_lines s m.rows) _ fine).1 in
@@ -82,14 +82,14 @@ close_place s t m fine closes =
     ltb-true _ _ (rw closes at (first_holds _ _ c).0)
 
 -- the trade of a finish is in the room
-abbrev Closed : State → Rooms → Exit → Type 0
+abbrev Closed : State → Rooms → Option Closed → Type 0
 Closed t m x =
     Added Limits.trade_words m.trades t.counts.trades (booked m.trades t.counts.trades x) (length (trades_of x)) (flat_map words_of_trade (trades_of x))
 
-close_booked : (s : Settings) (t : State) (m : Rooms) → finish_judged s t m ≡ Fine → Closed t m (last_exit s t)
+close_booked : (s : Settings) (t : State) (m : Rooms) → finish_judged s t m ≡ Ok tt → Closed t m (last_exit s t)
 close_booked s t m fine = go (to_close t) refl
   where
-    none : to_close t ≡ false → last_exit s t ≡ NoExit
+    none : to_close t ≡ false → last_exit s t ≡ None
     none h = unfold last_exit in rw h
 
     go : (b : Bool) → to_close t ≡ b → Closed t m (last_exit s t)
@@ -97,7 +97,7 @@ close_booked s t m fine = go (to_close t) refl
     go false h = rw (none h) (none_added m.trades t.counts.trades)
 
 -- The books of (t, m), with the trade of the exit x at their end and the last point as it leaves the account, are those of (u, n).
-pub record Closes (t : State) (m : Rooms) (u : State) (n : Rooms) (x : Exit) : Type 0 where
+pub record Closes (t : State) (m : Rooms) (u : State) (n : Rooms) (x : Option Closed) : Type 0 where
   pub points : u.counts.equity_points ≡ t.counts.equity_points
   pub trades : u.counts.trades ≡ t.counts.trades + length (trades_of x)
   pub equity : held_points u n ≡ remarked (held_points t m) t.counts.equity_points x t.last.close
@@ -107,7 +107,7 @@ pub record Closes (t : State) (m : Rooms) (u : State) (n : Rooms) (x : Exit) : T
   pub behind_trades : drop (u.counts.trades * Limits.trade_words) n.trades ≡ drop (u.counts.trades * Limits.trade_words) m.trades
 
 -- A finish adds the trade that it closes, puts its fee into the last point, and does nothing else.
-pub end_closes : (s : Settings) (t : State) (m : Rooms) → finish_judged s t m ≡ Fine
+pub end_closes : (s : Settings) (t : State) (m : Rooms) → finish_judged s t m ≡ Ok tt
     → let e = ended s t m in
     Closes t m e.result.state e.rooms (last_exit s t)
 unfolding ended end_state held_points held_trades flat_map

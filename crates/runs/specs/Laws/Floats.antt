@@ -1,15 +1,14 @@
 -- Every float of a state is an f64: it was one in the state before, it is a word of the bar, or an operation of IEEE 754 gave it. So what the
 -- round trip of a state's words asks (records, Laws/RoundTrip) holds after every bar and after a finish.
-use Rattle.std.specs.Prelude.{ℕ, ◌≡◌, refl, Bool, true, false, cond, List, T, Float}
+use Rattle.std.specs.Prelude.{ℕ, ◌≡◌, refl, Bool, true, false, cond, List, T, Float, None, Option, Some}
 use Rattle.words.specs.Prelude.{binary64, fits, of_bits-fits, cond-fits, mul-fits}
 use Rattle.floats.specs.{Floats.◌⊗◌, Floats.◌≺◌, Floats.min, Floats.max, Floats.eps}
 use Rattle.rows.specs.{History.History, History.history_of}
 use Rattle.portfolio.specs.{declared.Candle.Candle, declared.Closed.Closed, declared.Portfolio.Portfolio, Portfolio.in_position, Portfolio.is_long}
 use Rattle.portfolio.specs.{Portfolio.funded, Portfolio.worse, Portfolio.worsened, Portfolio.entered, Portfolio.exited, Trade.signal, Trade.end}
 use Rattle.execution.specs.{declared.fills.Entry.Entry, declared.fills.Entry.TheVariants.NoEntry, declared.fills.Entry.TheVariants.TooLarge}
-use Rattle.execution.specs.{declared.fills.Entry.TheVariants.Entered, declared.fills.Exit.Exit, declared.fills.Exit.TheVariants.NoExit}
-use Rattle.execution.specs.{declared.fills.Exit.TheVariants.Exited, declared.costs.Funding.Funding, declared.costs.Funding.TheVariants.NotSupplied}
-use Rattle.execution.specs.{declared.costs.Funding.TheVariants.Supplied, declared.optional.Optional.Optional}
+use Rattle.execution.specs.{declared.fills.Entry.TheVariants.Entered}
+use Rattle.execution.specs.{declared.costs.Funding.Funding}
 use Rattle.execution.specs.{declared.lots.Quantity.Quantity, declared.lots.Quantity.TheVariants.Nothing, declared.lots.Quantity.TheVariants.Of}
 use Rattle.execution.specs.{declared.level.Entries.Entries, declared.level.OrderKind.OrderKind, declared.level.OrderType.OrderType}
 use Rattle.execution.specs.{declared.level.OrderType.TheVariants.Market as MarketType, declared.level.OrderType.TheVariants.Limit as LimitType}
@@ -86,7 +85,7 @@ facing_64 p k high low h = record { account = worsened_64 p.portfolio k high low
 
 -- ---- a position that is left
 
-abbrev Exit64 : Exit → Type 0
+abbrev Exit64 : Option Closed → Type 0
 Exit64 = LeftWith Account64
 
 closed_64 : (p : Portfolio) (price : Float) (time : ℕ) (bps : Float) (reason : ℕ) → Account64 p → Account64 (closed p price time bps reason).portfolio
@@ -101,10 +100,10 @@ closed_64 p price time bps reason a = record {
   worst = a.worst;
 }
 
-leaving_64 : (p : Position) (x : Exit) → Position64 p → Exit64 x → Position64 (leaving p x)
+leaving_64 : (p : Position) (x : Option Closed) → Position64 p → Exit64 x → Position64 (leaving p x)
 unfolding leaving
-leaving_64 p NoExit h e = h
-leaving_64 p (Exited c) h (left _ a) = record { account = a; extreme = h.extreme }
+leaving_64 p None h e = h
+leaving_64 p (Some c) h (left _ a) = record { account = a; extreme = h.extreme }
 
 -- ---- the fill
 
@@ -141,7 +140,7 @@ entry_either false x h = h
 entry_64 : (side : Side) (raw bps : Float) (terms : Terms) (k : Candle) (p : Portfolio) (h : History) → Entry64 (execute_entry side raw bps terms k p h)
 unfolding execute_entry
 entry_64 side raw bps terms k p h =
-    let rv : Optional = volatility_for terms.sizing h in
+    let rv : Option Float = volatility_for terms.sizing h in
     let probe : Quantity = probe_qty terms.slippage terms p.cash raw rv in
     let fill : Float = fill_price raw (direction side) (slippage_rate terms.slippage (or_zero probe) k.volume) in
     entry_either (is_too_large probe) (entry_with (direction side) (within_volume terms (quantity terms p.cash fill rv) k.volume) fill bps k p)
@@ -224,10 +223,10 @@ intrabar_64 s p k high low h =
 
 -- ---- funding
 
-funding_64 : (f : Funding) (p : Portfolio) → Account64 p → Account64 (with_funding f p)
+funding_64 : (f : Option Funding) (p : Portfolio) → Account64 p → Account64 (with_funding f p)
 unfolding with_funding funded
-funding_64 NotSupplied p a = a
-funding_64 (Supplied mark rate) p a = record {
+funding_64 None p a = a
+funding_64 (Some funding) p a = record {
   cash = sub-fits binary64 _ _;
   qty = a.qty;
   entry_price = a.entry_price;
@@ -241,7 +240,7 @@ charged_64 : (s : Settings) (p : Position) (bar : List ℕ) → Position64 p →
 unfolding charged charge_funding
 charged_64 s p bar h =
     let a : Portfolio = p.portfolio in
-    let f : Funding = funding_of s.slots bar in
+    let f : Option Funding = funding_of s.slots bar in
     record {
       account =
           account_either s.funding (cond (in_position a) (with_funding f a) a) a
@@ -296,7 +295,7 @@ last_64 : (s : Settings) (t : State) → Account64 t.position.portfolio → Exit
 unfolding last_exit
 last_64 s t a =
     let x : Closed = closed t.position.portfolio t.last.close t.last.time s.terms.taker_bps end in
-    exit_if Account64 (to_close t) (Exited x) (left x (closed_64 t.position.portfolio t.last.close t.last.time s.terms.taker_bps end a))
+    exit_if Account64 (to_close t) (Some x) (left x (closed_64 t.position.portfolio t.last.close t.last.time s.terms.taker_bps end a))
 
 -- AFTER A BAR
 pub step_floats : (s : Settings) (t : State) (bar : List ℕ) (m : Rooms) (ls : Lists) → Floats64 t → Floats64 (stepped s t bar m ls).result

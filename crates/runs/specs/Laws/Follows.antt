@@ -1,9 +1,8 @@
 -- A box keeps the last D rows, and its run is one that keeps every row.
-use Rattle.std.specs.Prelude.{ℕ, ◌≡◌, List, [], ◌∷◌, ◌++◌, take}
+use Rattle.std.specs.Prelude.{ℕ, ◌≡◌, List, [], ◌∷◌, ◌++◌, take, Ok}
 use Rattle.words.specs.Prelude.{flat_map}
 use Rattle.words.specs.Prelude.{◌∙◌, append-nil, append_assoc}
 use Rattle.records.specs.{declared.settings.Settings.Settings, declared.state.State.State, Lent.Lists, Lent.Rooms}
-use Rattle.refusals.specs.{declared.verdict.Verdict.TheVariants.Fine}
 use Rattle.engine.specs.{Boxes.Grown, Boxes.Follows, Laws.Runs.run_none, Laws.Verdict.verdict_fine, Record.row_of}
 use Rattle.engine.specs.{Run.run_over, Step.stepped, Step.step_verdict, Whole.Account, Whole.account_of, Whole.rows_held, Whole.by_lists}
 use Rattle.engine.specs.{Whole.taken, Whole.whole_run, Whole.whole_run_by, Whole.rows_of}
@@ -12,7 +11,7 @@ use Rattle.runs.specs.{Laws.BooksGrow.grown_none, Laws.BooksGrow.grown_more, Law
 
 -- ---- a bar
 
-module _ (s : Settings) (ls : Lists) (t : State) (m : Rooms) (bar : List ℕ) (fine : step_verdict s t bar m ls ≡ Fine)
+module _ (s : Settings) (ls : Lists) (t : State) (m : Rooms) (bar : List ℕ) (fine : step_verdict s t bar m ls ≡ Ok tt)
     (a : Account) (rows : List ℕ) (f : Follows s t m a rows) where
   -- what the bar comes to over all rows is what it comes to over those held
   same_taken : taken s (by_lists s ls) (account_of t) (rows_held s t m) bar ≡ taken s (by_lists s ls) a rows bar
@@ -45,7 +44,7 @@ module _ (s : Settings) (ls : Lists) (t : State) (m : Rooms) (a : Account) (rows
   unfolding whole_run_by flat_map
   whole_none = record { follows = record { account = f.account; window = rw append-nil f.window }; grows = grown_none t m }
 
-  whole_more : (bar : List ℕ) (bars : List (List ℕ)) (u : State) (n : Rooms) → step_verdict s t bar m ls ≡ Fine
+  whole_more : (bar : List ℕ) (bars : List (List ℕ)) (u : State) (n : Rooms) → step_verdict s t bar m ls ≡ Ok tt
       → let d = stepped s t bar m ls in
       RunsWhole s ls d.result d.rooms (taken s (by_lists s ls) a rows bar).account (rows ++ row_of s.slots bar) bars u n
       → RunsWhole s ls t m a rows (bar ∷ bars) u n

@@ -1,17 +1,16 @@
 -- The funding paid and the least favourable price decide nothing: what a phase of a bar does, but for these two words, it does without them.
-use Rattle.std.specs.Prelude.{ℕ, ◌≡◌, refl, Bool, true, false, cond, List, [], ◌∷◌, ◌++◌, Float}
+use Rattle.std.specs.Prelude.{ℕ, ◌≡◌, refl, Bool, true, false, cond, List, [], ◌∷◌, ◌++◌, Float, None, Option, Some}
 use Rattle.words.specs.Prelude.{sym, ◌∙◌}
 use Rattle.rows.specs.{History.History}
 use Rattle.portfolio.specs.{declared.Candle.Candle, declared.Portfolio.Portfolio, declared.Trade.Trade, Portfolio.in_position, Portfolio.is_long}
 use Rattle.portfolio.specs.{Portfolio.equity, Portfolio.funded, Portfolio.worsened, Portfolio.entered, Portfolio.notional, Portfolio.pnl, Portfolio.trade_of}
 use Rattle.portfolio.specs.{Portfolio.exited, Trade.signal}
 use Rattle.execution.specs.{declared.fills.Entry.Entry, declared.fills.Entry.TheVariants.NoEntry, declared.fills.Entry.TheVariants.Entered}
-use Rattle.execution.specs.{declared.fills.Exit.Exit, declared.fills.Exit.TheVariants.NoExit, declared.fills.Exit.TheVariants.Exited}
-use Rattle.execution.specs.{declared.costs.Funding.Funding, declared.costs.Funding.TheVariants.NotSupplied, declared.costs.Funding.TheVariants.Supplied}
+use Rattle.execution.specs.{declared.costs.Funding.Funding}
 use Rattle.execution.specs.{declared.lots.Quantity.Quantity, declared.lots.Quantity.TheVariants.Nothing, declared.lots.Quantity.TheVariants.TooLarge}
 use Rattle.execution.specs.{declared.lots.Quantity.TheVariants.Of, declared.level.Side.Side, declared.level.OrderKind.OrderKind, declared.terms.Terms.Terms}
-use Rattle.execution.specs.{declared.terms.Risk.Risk, declared.intrabar.Trigger.Trigger, declared.intrabar.Trigger.TheVariants.Untouched}
-use Rattle.execution.specs.{declared.intrabar.Trigger.TheVariants.At, Costs.closed, Costs.with_funding, Costs.charge_funding, Fills.entry_with}
+use Rattle.execution.specs.{declared.terms.Risk.Risk, declared.intrabar.Trigger.Trigger}
+use Rattle.execution.specs.{Costs.closed, Costs.with_funding, Costs.charge_funding, Fills.entry_with}
 use Rattle.execution.specs.{Fills.execute_entry, Fills.exit_direction, Fills.execute_exit, Intrabar.favourable, Intrabar.extreme_with, Intrabar.bankruptcy_price}
 use Rattle.execution.specs.{Intrabar.liquidated, Intrabar.or_liquidated, Intrabar.touched, Intrabar.closed_by, Intrabar.apply_intrabar_exits}
 use Rattle.records.specs.{declared.settings.Settings.Settings, declared.state.Order.Order, declared.state.Order.TheVariants.Idle}
@@ -23,6 +22,7 @@ use Rattle.engine.specs.{Account.due_of, Account.done_of, Account.filled, Accoun
 use Rattle.engine.specs.{Decide.state_at, Decide.ordered, Decide.order_after}
 use Rattle.runs.specs.{Forgotten.forget, Forgotten.forget_trade, Forgotten.forget_exit, Forgotten.forget_position, Forgotten.forget_trades}
 use Rattle.engine.specs.Account as Account
+use Rattle.portfolio.specs.{declared.Closed.Closed}
 
 -- ---- tests
 
@@ -30,7 +30,7 @@ portfolio_test : (b : Bool) (p q p' q' : Portfolio) → forget p ≡ forget p' �
 portfolio_test true p q p' q' e d = e
 portfolio_test false p q p' q' e d = d
 
-pub exit_test : (b : Bool) (x y : Exit) → forget_exit x ≡ forget_exit y → forget_exit (cond b x NoExit) ≡ forget_exit (cond b y NoExit)
+pub exit_test : (b : Bool) (x y : Option Closed) → forget_exit x ≡ forget_exit y → forget_exit (cond b x None) ≡ forget_exit (cond b y None)
 exit_test true x y e = e
 exit_test false x y e = refl
 
@@ -58,19 +58,19 @@ side_forgets : (p : Portfolio) → exit_direction (forget p) ≡ exit_direction 
 unfolding exit_direction is_long forget
 side_forgets p = refl
 
-supplied_forgets : (f : Funding) (p : Portfolio) → forget (with_funding f p) ≡ forget (with_funding f (forget p))
+supplied_forgets : (f : Option Funding) (p : Portfolio) → forget (with_funding f p) ≡ forget (with_funding f (forget p))
 unfolding with_funding funded forget
-supplied_forgets NotSupplied p = refl
-supplied_forgets (Supplied mark rate) p = refl
+supplied_forgets None p = refl
+supplied_forgets (Some funding) p = refl
 
-funding_forgets : (on : Bool) (f : Funding) (p : Portfolio) → forget (charge_funding on f p) ≡ forget (charge_funding on f (forget p))
+funding_forgets : (on : Bool) (f : Option Funding) (p : Portfolio) → forget (charge_funding on f p) ≡ forget (charge_funding on f (forget p))
 unfolding charge_funding
 funding_forgets on f p =
     rw (in_forgets p)
     (portfolio_test on _ _ _ _ (portfolio_test (in_position p) _ _ _ _ (supplied_forgets f p) (forget_twice p)) (forget_twice p))
 
 pub closed_forgets : (p : Portfolio) (price : Float) (time : ℕ) (bps : Float) (reason : ℕ)
-    → forget_exit (Exited (closed p price time bps reason)) ≡ forget_exit (Exited (closed (forget p) price time bps reason))
+    → forget_exit (Some (closed p price time bps reason)) ≡ forget_exit (Some (closed (forget p) price time bps reason))
 unfolding forget_exit forget_trade closed exited trade_of pnl notional forget
 closed_forgets p price time bps reason = refl
 
@@ -80,19 +80,19 @@ unfolding execute_exit
 leave_forgets reason raw terms k p =
     rw (in_forgets p, side_forgets p) (exit_test (in_position p) _ _ (closed_forgets p _ _ _ _ ∙ (unfold forget in refl)))
 
-or_forgets : (t : Trigger) (k : Candle) (r : Risk) (p : Portfolio) → or_liquidated t k r p ≡ or_liquidated t k r (forget p)
+or_forgets : (t : Option Trigger) (k : Candle) (r : Risk) (p : Portfolio) → or_liquidated t k r p ≡ or_liquidated t k r (forget p)
 unfolding or_liquidated liquidated bankruptcy_price is_long forget
-or_forgets (At price reason) k r p = refl
-or_forgets Untouched k r p = refl
+or_forgets (Some trigger) k r p = refl
+or_forgets None k r p = refl
 
 touched_forgets : (k : Candle) (r : Risk) (p : Portfolio) (e : Float) → touched k r p e ≡ touched k r (forget p) e
 unfolding touched is_long forget
 touched_forgets k r p e = or_forgets _ k r p
 
-by_forgets : (t : Trigger) (k : Candle) (terms : Terms) (p : Portfolio) → forget_exit (closed_by t k terms p) ≡ forget_exit (closed_by t k terms (forget p))
+by_forgets : (t : Option Trigger) (k : Candle) (terms : Terms) (p : Portfolio) → forget_exit (closed_by t k terms p) ≡ forget_exit (closed_by t k terms (forget p))
 unfolding closed_by
-by_forgets Untouched k terms p = refl
-by_forgets (At price reason) k terms p = closed_forgets p _ _ _ _
+by_forgets None k terms p = refl
+by_forgets (Some trigger) k terms p = closed_forgets p _ _ _ _
 
 inside_forgets : (k : Candle) (terms : Terms) (p : Portfolio) (e : Float)
     → forget_exit (apply_intrabar_exits k terms p e) ≡ forget_exit (apply_intrabar_exits k terms (forget p) e)
@@ -143,10 +143,10 @@ enter_forgets side kind price s p k h number = record {
   «exit» = refl;
 }
 
-pub leaving_forgets : (p : Position) (x : Exit) → forget_position (leaving p x) ≡ forget_position (leaving (forget_position p) (forget_exit x))
+pub leaving_forgets : (p : Position) (x : Option Closed) → forget_position (leaving p x) ≡ forget_position (leaving (forget_position p) (forget_exit x))
 unfolding leaving forget_position forget_exit forget
-leaving_forgets p NoExit = refl
-leaving_forgets p (Exited c) = refl
+leaving_forgets p None = refl
+leaving_forgets p (Some c) = refl
 
 -- an exit by order: over the position that has taken the bar, which is the same but for the two words
 sell_exit : (s : Settings) (p : Position) (k : Candle)
@@ -241,7 +241,7 @@ trades_append [] ys = refl
 trades_append (x ∷ xs) ys = rw (trades_append xs ys)
 
 -- the trade of an exit
-pub trade_forgets : (x : Exit) → forget_trades (trades_of x) ≡ trades_of (forget_exit x)
+pub trade_forgets : (x : Option Closed) → forget_trades (trades_of x) ≡ trades_of (forget_exit x)
 unfolding forget_trades trades_of forget_exit
-trade_forgets NoExit = refl
-trade_forgets (Exited c) = refl
+trade_forgets None = refl
+trade_forgets (Some c) = refl

@@ -1,14 +1,14 @@
 -- The last equity point after finish: on the words that a room holds, behind them, and on points.
-use Rattle.std.specs.Prelude.{ℕ, suc, ◌+◌, ◌-◌, ◌*◌, ◌≡◌, refl, Bool, true, false, cond, List, [], ◌∷◌, ltb, Float, length, take, drop, set}
+use Rattle.std.specs.Prelude.{ℕ, suc, ◌+◌, ◌-◌, ◌*◌, ◌≡◌, refl, Bool, true, false, cond, List, [], ◌∷◌, ltb, Float, length, take, drop, set, None, Option, Some}
 use Rattle.words.specs.Prelude.{flat_map}
 use Rattle.words.specs.Prelude.{ap, arith, ltb-true, lt-ltb}
 use Rattle.words.specs.Prelude.{length-set}
 use Rattle.floats.specs.{Floats.word_of}
-use Rattle.execution.specs.{declared.fills.Exit.Exit, declared.fills.Exit.TheVariants.NoExit, declared.fills.Exit.TheVariants.Exited}
 use Rattle.engine.specs.{Books.Point, Books.words_of_point, Books.last_becomes, Finish.remarked, Whole.end_points}
 use Rattle.std.proofs.Math.Seq.{take-set-lt}
 use Rattle.std.proofs.Common.{drop-set-lt}
 use Rattle.words.specs.Limits as Limits
+use Rattle.portfolio.specs.{declared.Closed.Closed}
 
 -- ---- a word stored in the last of n points, where there is one
 
@@ -57,28 +57,28 @@ stored_points (p ∷ (q ∷ ps)) e =
 
 module _ (room : List ℕ) (n : ℕ) (close : Float) where
   -- the room stays as long as it was
-  pub remarked-length : (x : Exit) → length (remarked room n x close) ≡ length room
+  pub remarked-length : (x : Option Closed) → length (remarked room n x close) ≡ length room
   unfolding remarked
-  remarked-length NoExit = refl
-  remarked-length (Exited c) = stored-length room n _
+  remarked-length None = refl
+  remarked-length (Some c) = stored-length room n _
 
   -- what it holds depends on what it held
-  pub remarked_held : (x : Exit) → take (n * Limits.point_words) (remarked room n x close) ≡ remarked (take (n * Limits.point_words) room) n x close
+  pub remarked_held : (x : Option Closed) → take (n * Limits.point_words) (remarked room n x close) ≡ remarked (take (n * Limits.point_words) room) n x close
   unfolding remarked
-  remarked_held NoExit = refl
-  remarked_held (Exited c) = stored_held room n _
+  remarked_held None = refl
+  remarked_held (Some c) = stored_held room n _
 
   -- what lies behind is untouched
-  pub remarked_behind : (x : Exit) → drop (n * Limits.point_words) (remarked room n x close) ≡ drop (n * Limits.point_words) room
+  pub remarked_behind : (x : Option Closed) → drop (n * Limits.point_words) (remarked room n x close) ≡ drop (n * Limits.point_words) room
   unfolding remarked
-  remarked_behind NoExit = refl
-  remarked_behind (Exited c) = stored_behind room n _
+  remarked_behind None = refl
+  remarked_behind (Some c) = stored_behind room n _
 
 module _ (ps : List Point) (close : Float) where
-  pub remarked_points : (x : Exit) → remarked (flat_map words_of_point ps) (length ps) x close ≡ flat_map words_of_point (end_points ps x close)
+  pub remarked_points : (x : Option Closed) → remarked (flat_map words_of_point ps) (length ps) x close ≡ flat_map words_of_point (end_points ps x close)
   unfolding remarked end_points
-  remarked_points NoExit = refl
-  remarked_points (Exited c) = stored_points ps _
+  remarked_points None = refl
+  remarked_points (Some c) = stored_points ps _
 
 last_count : (ps : List Point) (e : Float) → length (last_becomes ps e) ≡ length ps
 unfolding last_becomes
@@ -86,7 +86,7 @@ last_count [] e = refl
 last_count (p ∷ []) e = refl
 last_count (p ∷ (q ∷ ps)) e = ap suc (last_count (q ∷ ps) e)
 
-pub end_count : (ps : List Point) (x : Exit) (close : Float) → length (end_points ps x close) ≡ length ps
+pub end_count : (ps : List Point) (x : Option Closed) (close : Float) → length (end_points ps x close) ≡ length ps
 unfolding end_points
-end_count ps NoExit close = refl
-end_count ps (Exited c) close = last_count ps _
+end_count ps None close = refl
+end_count ps (Some c) close = last_count ps _

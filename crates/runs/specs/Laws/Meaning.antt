@@ -2,7 +2,7 @@
 use Rattle.std.specs.Prelude.{ℕ, zero, suc, ◌≤◌, ◌<◌, ◌≡◌, refl, List, Float}
 use Rattle.words.specs.Prelude.{ap, arith}
 use Rattle.rows.specs.{History.history_of, History.last_rows}
-use Rattle.table.specs.{declared.answer.Answer.TheVariants.Accepted, Checked.checked, Header.slots, Reading.tree_of, Trees.reach_of, Depth.greatest_reach}
+use Rattle.table.specs.{Checked.checked, Header.slots, Reading.tree_of, Trees.reach_of, Depth.greatest_reach}
 use Rattle.table.specs.{Depth.depth_of, Bytes.Bytes}
 use Rattle.rules.specs.{declared.position.PositionState.PositionState}
 use Rattle.steps.specs.{Bytes.bytes_of, Translating.steps_of, Window.window_steps}
@@ -10,6 +10,7 @@ use Rattle.records.specs.{declared.state.Order.Order, declared.state.Position.Po
 use Rattle.engine.specs.{Decide.list_says, Decide.state_at, Decide.answers_of, Decide.order_after, Decide.decided, Rules.rules_of, Rules.lists_of, Rules.meanings}
 use Rattle.engine.specs.{Rules.FromTable, Whole.by_lists, Whole.by_meaning}
 use Rattle.rules.specs.Meaning as Meaning
+use Rattle.table.specs.{Outcome.accepts}
 
 -- "D = 1 + the greatest of the four reaches and, for VolTarget, its lookback" lies above each reach
 reach_below : (table : List ℕ) (back x : ℕ) → x < 4 → reach_of (tree_of table x) < depth_of table back
@@ -21,7 +22,7 @@ reach_below table back (suc (suc (suc zero))) four = omega arith
 reach_below table back (suc (suc (suc (suc x)))) four = absurd (omega arith)
 
 -- So settings whose D is at least what `depth` answers for the table and any lookback belong to it.
-pub from_depth : (table : List ℕ) (n r : ℕ) → checked table ≡ Accepted n r → Bytes table → (s : Settings) → s.slots ≡ slots table
+pub from_depth : (table : List ℕ) (n r : ℕ) → checked table ≡ accepts n r → Bytes table → (s : Settings) → s.slots ≡ slots table
     → (back : ℕ) → depth_of table back ≤ s.depth → FromTable table s (lists_of table)
 from_depth table n r ok bytes s same back deep = record {
   nodes = n;

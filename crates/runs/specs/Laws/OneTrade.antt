@@ -1,10 +1,10 @@
 -- "A step records at most one trade."
-use Rattle.std.specs.Prelude.{ℕ, ◌+◌, ◌≤◌, ◌≡◌, refl, Bool, true, false, cond, List, ltb, Float}
+use Rattle.std.specs.Prelude.{ℕ, ◌+◌, ◌≤◌, ◌≡◌, refl, Bool, true, false, cond, List, ltb, Float, None, Option, Some}
 use Rattle.words.specs.Prelude.{arith}
 use Rattle.rows.specs.{History.History}
 use Rattle.portfolio.specs.{declared.Candle.Candle, declared.Closed.Closed, declared.Portfolio.Portfolio, Portfolio.in_position, Portfolio.worsened}
 use Rattle.portfolio.specs.{Portfolio.exited}
-use Rattle.execution.specs.{declared.fills.Exit.Exit, declared.fills.Exit.TheVariants.NoExit, declared.fills.Exit.TheVariants.Exited, Costs.closed}
+use Rattle.execution.specs.{Costs.closed}
 use Rattle.execution.specs.{Fills.execute_exit, Intrabar.apply_intrabar_exits}
 use Rattle.records.specs.{declared.state.Order.Order, declared.state.Position.Position, declared.settings.Settings.Settings, declared.state.State.State}
 use Rattle.records.specs.{Bar.candle_of, Lent.Lists, Lent.Rooms, Lent.trade_places}
@@ -15,7 +15,7 @@ use Rattle.std.specs.Float.Ieee as Ieee
 use Rattle.floats.specs.Floats as Floats
 use Rattle.engine.specs.Account as Account
 
-never : {A : Type 0} (c : Closed) → NoExit ≡ Exited c → A
+never : {A : Type 0} (c : Closed) → None ≡ Some c → A
 never c e = absurd (let z : ◌≡◌ {A = ℕ} 0 1 = cc in omega arith)
 
 -- a position that was closed is flat
@@ -25,10 +25,10 @@ closed_is_flat p price time bps reason = refl
 
 -- where a fill closed a trade, what is left is flat
 abbrev Flat : Filled → Type 0
-Flat f = (c : Closed) → f.«exit» ≡ Exited c → in_position f.position.portfolio ≡ false
+Flat f = (c : Closed) → f.«exit» ≡ Some c → in_position f.position.portfolio ≡ false
 
 left_flat : (b : Bool) (p : Position) (d : Closed) → in_position d.portfolio ≡ false → (c : Closed)
-    → cond b (Exited d) NoExit ≡ Exited c → in_position (leaving p (cond b (Exited d) NoExit)).portfolio ≡ false
+    → cond b (Some d) None ≡ Some c → in_position (leaving p (cond b (Some d) None)).portfolio ≡ false
 unfolding leaving
 left_flat true p d h c e = h
 left_flat false p d h c e = never c e
@@ -53,7 +53,7 @@ unfolding facing worsened
 flat_faces p k h = rw h
 
 -- and is not left inside the bar
-stays_flat : (s : Settings) (p : Position) (k : Candle) → in_position p.portfolio ≡ false → (intrabar s p k).«exit» ≡ NoExit
+stays_flat : (s : Settings) (p : Position) (k : Candle) → in_position p.portfolio ≡ false → (intrabar s p k).«exit» ≡ None
 unfolding intrabar apply_intrabar_exits
 stays_flat s p k h = rw (flat_faces p k h, h)
 
@@ -62,21 +62,21 @@ books_one : (b : Bool) (n : ℕ) (x y : List ℕ) → (cond {A = Held} b (record
 books_one true n x y = omega arith
 books_one false n x y = omega arith
 
-pub books : (room : List ℕ) (n : ℕ) (x : Exit) → (booked room n x).count ≤ n + 1
+pub books : (room : List ℕ) (n : ℕ) (x : Option Closed) → (booked room n x).count ≤ n + 1
 unfolding booked
-books room n NoExit = omega arith
-books room n (Exited c) = books_one (ltb n (trade_places room)) n _ _
+books room n None = omega arith
+books room n (Some c) = books_one (ltb n (trade_places room)) n _ _
 
 -- two exits of which the second comes only where the first did not
-at_most_one : (room : List ℕ) (n : ℕ) (x y : Exit) → ((c : Closed) → x ≡ Exited c → y ≡ NoExit)
+at_most_one : (room : List ℕ) (n : ℕ) (x y : Option Closed) → ((c : Closed) → x ≡ Some c → y ≡ None)
     → (booked (booked room n x).room (booked room n x).count y).count ≤ n + 1
 unfolding booked
-at_most_one room n NoExit y h = books room n y
-at_most_one room n (Exited c) y h = rw (h c refl) (books room n (Exited c))
+at_most_one room n None y h = books room n y
+at_most_one room n (Some c) y h = rw (h c refl) (books room n (Some c))
 
 -- where the fill of a bar closed a trade, no exit inside it does
 pub one_exit : (s : Settings) (o : Order) (p : Position) (k : Candle) (h : History) (number : ℕ) (c : Closed)
-    → (filled s o p k h number).«exit» ≡ Exited c → (intrabar s (filled s o p k h number).position k).«exit» ≡ NoExit
+    → (filled s o p k h number).«exit» ≡ Some c → (intrabar s (filled s o p k h number).position k).«exit» ≡ None
 one_exit s o p k h number c e = stays_flat s (filled s o p k h number).position k (fill_flat s o p k h number c e)
 
 -- A step records at most one trade.

@@ -1,10 +1,10 @@
 -- What holds of an order before a bar, and of every order that the bar can make of it, holds after the bar. Assumes nothing.
-use Rattle.std.specs.Prelude.{ℕ, ◌-◌, Bool, true, false, cond, ltb, Float}
+use Rattle.std.specs.Prelude.{ℕ, ◌-◌, Bool, true, false, cond, ltb, Float, None, Option, Some}
 use Rattle.rows.specs.{History.History}
 use Rattle.portfolio.specs.{declared.Candle.Candle, declared.Portfolio.Portfolio, Portfolio.in_position, Portfolio.is_long}
 use Rattle.execution.specs.{declared.level.OrderKind.OrderKind, declared.level.Side.Side, declared.level.Side.TheVariants.Long}
-use Rattle.execution.specs.{declared.level.Side.TheVariants.Short, declared.optional.Optional.Optional, declared.optional.Optional.TheVariants.Absent}
-use Rattle.execution.specs.{declared.optional.Optional.TheVariants.Of, Level.entry_trigger, Level.level_fill}
+use Rattle.execution.specs.{declared.level.Side.TheVariants.Short}
+use Rattle.execution.specs.{Level.entry_trigger, Level.level_fill}
 use Rattle.records.specs.{declared.settings.Settings.Settings, declared.state.Order.Order, declared.state.Order.TheVariants.Idle}
 use Rattle.records.specs.{declared.state.Order.TheVariants.EnterLong, declared.state.Order.TheVariants.EnterShort}
 use Rattle.records.specs.{declared.state.Order.TheVariants.Exit as ExitOrder, declared.state.Position.Position}
@@ -47,10 +47,10 @@ module _ (P : Order → Type 0) where
     due_either true x y h i = h
     due_either false x y h i = i
 
-    reached : (side : Side) (kind : OrderKind) (o : Order) (x : Optional) → P o → Done (due_if_reached side kind o x)
+    reached : (side : Side) (kind : OrderKind) (o : Order) (x : Option Float) → P o → Done (due_if_reached side kind o x)
     unfolding due_if_reached done_of entry_filled
-    reached side kind o Absent h = h
-    reached side kind o (Of price) h = none
+    reached side kind o None h = h
+    reached side kind o (Some price) h = none
 
     pub filled_keeps : (o : Order) → P o → P (filled s o p k before number).order
     unfolding filled due_of done_of exit_filled

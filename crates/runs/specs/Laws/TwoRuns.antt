@@ -1,13 +1,13 @@
 -- Two boxes with the same account and the same last D rows take as many bars and end with the same verdict.
-use Rattle.std.specs.Prelude.{ℕ, ◌+◌, ◌≤◌, ◌≡◌, refl, List, [], ◌∷◌}
+use Rattle.std.specs.Prelude.{ℕ, ◌+◌, ◌≤◌, ◌≡◌, refl, List, [], ◌∷◌, Err, Ok}
 use Rattle.words.specs.Prelude.{sym, ap, ◌∙◌}
 use Rattle.records.specs.{declared.settings.Settings.Settings, declared.state.State.State, Lent.Lists, Lent.Rooms, Lent.row_places, State.fresh_state}
-use Rattle.refusals.specs.{declared.verdict.Verdict.Verdict, declared.verdict.Verdict.TheVariants.Fine, declared.verdict.Verdict.TheVariants.Bad}
 use Rattle.refusals.specs.{Laws.Lines.never}
 use Rattle.engine.specs.{Boxes.Sound, Boxes.SameCounts, Boxes.NotFull, Boxes.Alike, Laws.Runs.run_none, Laws.Runs.run_stops, Laws.Runs.run_takes}
 use Rattle.engine.specs.{Laws.Runs.run_keeps, Run.Run, Run.run_over, Step.With, Step.stepped, Step.step_verdict}
 use Rattle.runs.specs.{Laws.Alike.step_alike, Laws.Alike.step_counts, Laws.Alike.step_sound, Laws.Counts.fresh_within}
 use Rattle.runs.specs.{Laws.Verdicts.same_verdict, Laws.Verdicts.same_unless_full}
+use Rattle.refusals.specs.{Lines.Verdict}
 
 -- ---- a box that is sound stays so
 
@@ -22,11 +22,11 @@ run_sound s ls bars t m r = run_keeps s ls (Sound s) (λ u n bar h q. step_sound
 
 -- Where boxes that are alike, and between which `Q` holds, are judged the same as long as both verdicts are `Free`, their runs
 -- take as many bars and end with the same verdict.
-module _ (s : Settings) (ls : Lists) (Free : Verdict → Type 0) (free : Free Fine) (Q : State → Rooms → State → Rooms → Type 0)
+module _ (s : Settings) (ls : Lists) (Free : Verdict → Type 0) (free : Free (Ok tt)) (Q : State → Rooms → State → Rooms → Type 0)
     (judge : (t : State) (m : Rooms) (t' : State) (m' : Rooms) (bar : List ℕ) → Alike s t m t' m' → Q t m t' m'
     → Free (step_verdict s t bar m ls) → Free (step_verdict s t' bar m' ls) → step_verdict s t bar m ls ≡ step_verdict s t' bar m' ls)
     (keep : (t : State) (m : Rooms) (t' : State) (m' : Rooms) (bar : List ℕ) → Alike s t m t' m'
-    → step_verdict s t bar m ls ≡ Fine → step_verdict s t' bar m' ls ≡ Fine → Q t m t' m'
+    → step_verdict s t bar m ls ≡ Ok tt → step_verdict s t' bar m' ls ≡ Ok tt → Q t m t' m'
     → Q (stepped s t bar m ls).result (stepped s t bar m ls).rooms (stepped s t' bar m' ls).result (stepped s t' bar m' ls).rooms) where
   abbrev Ends : Run → Run → Type 0
   Ends r r' = Free r.verdict → Free r'.verdict → (r.done ≡ r'.done) × (r.verdict ≡ r'.verdict)
@@ -49,14 +49,14 @@ module _ (s : Settings) (ls : Lists) (Free : Verdict → Type 0) (free : Free Fi
       so v v' e e' f f' = sym e ∙ judge t m t' m' bar alike q (rw e f) (rw e' f') ∙ e'
 
       go : (v v' : Verdict) → step_verdict s t bar m ls ≡ v → step_verdict s t' bar m' ls ≡ v'
-          → (step_verdict s t bar m ls ≡ Fine → step_verdict s t' bar m' ls ≡ Fine
+          → (step_verdict s t bar m ls ≡ Ok tt → step_verdict s t' bar m' ls ≡ Ok tt
           → Ends (run_over s ls d.result d.rooms bars) (run_over s ls d'.result d'.rooms bars))
           → Ends (run_over s ls t m (bar ∷ bars)) (run_over s ls t' m' (bar ∷ bars))
-      go (Bad w) (Bad w') e e' later =
-          rw (run_stops s ls t m bar bars w e, run_stops s ls t' m' bar bars w' e') (λ f f'. (refl, so (Bad w) (Bad w') e e' f f'))
-      go (Bad w) Fine e e' later = rw (run_stops s ls t m bar bars w e) (λ f f'. never (so (Bad w) Fine e e' f free))
-      go Fine (Bad w') e e' later = rw (run_stops s ls t' m' bar bars w' e') (λ f f'. never (sym (so Fine (Bad w') e e' free f')))
-      go Fine Fine e e' later =
+      go (Err w) (Err w') e e' later =
+          rw (run_stops s ls t m bar bars w e, run_stops s ls t' m' bar bars w' e') (λ f f'. (refl, so (Err w) (Err w') e e' f f'))
+      go (Err w) (Ok tt) e e' later = rw (run_stops s ls t m bar bars w e) (λ f f'. never (so (Err w) (Ok tt) e e' f free))
+      go (Ok tt) (Err w') e e' later = rw (run_stops s ls t' m' bar bars w' e') (λ f f'. never (sym (so (Ok tt) (Err w') e e' free f')))
+      go (Ok tt) (Ok tt) e e' later =
           rw (run_takes s ls t m bar bars e, run_takes s ls t' m' bar bars e')
           (λ f f'. let x = later e e' f f' in (ap (λ (n : ℕ). n + 1) x.0, x.1))
 

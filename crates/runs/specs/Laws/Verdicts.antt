@@ -1,16 +1,18 @@
 -- Two boxes with the same account, the same last D rows and room for D rows are judged by the same lines, but for those of a full book.
-use Rattle.std.specs.Prelude.{ℕ, ◌≤◌, ◌<◌, ◌≡◌, refl, Bool, true, false, cond, ◌&&◌, List, [], ◌∷◌, ◌++◌, ltb, leb, eqb, length}
+use Rattle.std.specs.Prelude.{ℕ, ◌≤◌, ◌<◌, ◌≡◌, refl, Bool, true, false, cond, ◌&&◌, List, [], ◌∷◌, ◌++◌, ltb, leb, eqb, length, Err, Ok}
 use Rattle.words.specs.Prelude.{sym, ◌∙◌, arith, leb-true, le-leb}
-use Rattle.words.specs.{Limits.bar_words, Limits.most_count, declared.refusal.Refusal.Refusal, Outcome.refusal}
+use Rattle.words.specs.{Limits.bar_words, Limits.most_count, declared.refusal.Refusal.Refusal}
 use Rattle.records.specs.{declared.settings.Settings.Settings, declared.state.Counts.Counts, declared.state.State.State, Lent.Lists, Lent.Rooms}
 use Rattle.records.specs.{Lent.point_places, Lent.trade_places}
-use Rattle.refusals.specs.{declared.verdict.Verdict.Verdict, declared.verdict.Verdict.TheVariants.Fine, declared.verdict.Verdict.TheVariants.Bad}
 use Rattle.refusals.specs.{Judgement.run_lines, Judgement.step_lines, Judgement.step_judged, Judgement.finish_lines, Judgement.finish_judged, Laws.Lines.never}
 use Rattle.refusals.specs.{Laws.Lines.below_fine, Laws.Lines.below_bad, Lines.Line, Lines.line, Lines.judged, Bar.bar_lines, Lists.list_lines, Settings.lookback}
 use Rattle.refusals.specs.{Rooms.entry_below, Rooms.room_lines, Rooms.state_lines, Rooms.place_lines, Rooms.to_close, Rooms.close_lines}
 use Rattle.engine.specs.{Boxes.WithinRooms, Boxes.Sound, Boxes.SameCounts, Boxes.Alike, Boxes.NotFull, Laws.Verdict.handed_bad}
 use Rattle.engine.specs.{Laws.Verdict.verdicts_alike, Step.size_lines, Step.step_verdict, Whole.account_of, Whole.rows_held}
 use Rattle.runs.specs.{Laws.AccountStep.same_parts, Laws.AccountStep.fill_alike}
+use Rattle.refusals.specs.{Lines.Verdict}
+use Rattle.words.specs.declared.refusal.Refusal.TheVariants as Refusal
+use Rattle.words.specs.{Outcome.number_of, Outcome.place_of}
 
 -- ---- the lines of a box with room for D rows: none looks at its rows
 
@@ -31,12 +33,12 @@ module _ (s : Settings) (t : State) (m : Rooms) where
   abbrev books_held : Bool
   books_held = leb t.counts.equity_points (point_places m.equity) && leb t.counts.trades (trade_places m.trades)
 
-  room_lines_lem : Sound s t m → room_lines s m.rows ≡ line true 10 0 ∷ []
+  room_lines_lem : Sound s t m → room_lines s m.rows ≡ line true (Refusal.Room 0) ∷ []
   unfolding room_lines
   room_lines_lem r = rw (le-leb _ _ r.depth)
 
   state_lines_lem : Sound s t m
-      → state_lines s t m ≡ line books_fine 13 0 ∷ line books_held 13 0 ∷ line (entry_below t.position.entered t.counts.bars_seen) 13 0 ∷ []
+      → state_lines s t m ≡ line books_fine Refusal.Records ∷ line books_held Refusal.Records ∷ line (entry_below t.position.entered t.counts.bars_seen) Refusal.Records ∷ []
   unfolding state_lines
   state_lines_lem r = rw (count_below t.counts.bars_seen t.counts.rows_held r.within.rows_seen, le-leb _ _ r.within.rows)
 
@@ -75,12 +77,12 @@ same_verdict s t t' m m' r r' a c bar ls =
 
 -- ---- other books: the same verdict, unless one is full
 
-by_14 : (ok : Bool) (v : Verdict) (why : Refusal) → (v ≡ Bad why → why.number ≡ 14) → cond ok v (Bad (refusal 14 0)) ≡ Bad why → why.number ≡ 14
+by_14 : (ok : Bool) (v : Verdict) (why : Refusal) → (v ≡ Err why → number_of why ≡ 14) → cond ok v (Err Refusal.Full) ≡ Err why → number_of why ≡ 14
 by_14 true v why below e = below e
 by_14 false v why below e = cc
 
 -- the lines of places are refused with 14 alone
-places_14 : (n : Counts) (equity trades : List ℕ) (why : Refusal) → judged (place_lines n equity trades) ≡ Bad why → why.number ≡ 14
+places_14 : (n : Counts) (equity trades : List ℕ) (why : Refusal) → judged (place_lines n equity trades) ≡ Err why → number_of why ≡ 14
 unfolding judged place_lines
 places_14 n equity trades why =
     by_14 (ltb n.equity_points (point_places equity)) _ why
@@ -93,8 +95,8 @@ places_passed : (n : Counts) (equity trades : List ℕ) (below : List Line) → 
 places_passed n equity trades below free = go (judged (place_lines n equity trades)) refl
   where
     go : (v : Verdict) → judged (place_lines n equity trades) ≡ v → judged (place_lines n equity trades ++ below) ≡ judged below
-    go Fine e = below_fine (place_lines n equity trades) below e
-    go (Bad why) e = absurd (unfold NotFull in free why (below_bad (place_lines n equity trades) below why e) (places_14 n equity trades why e))
+    go (Ok tt) e = below_fine (place_lines n equity trades) below e
+    go (Err why) e = absurd (unfold NotFull in free why (below_bad (place_lines n equity trades) below why e) (places_14 n equity trades why e))
 
 -- lines above say the same of both
 above : (a b b' : List Line) → (NotFull (judged b) → NotFull (judged b') → judged b ≡ judged b')
@@ -104,8 +106,8 @@ above [] b b' h f f' = h f f'
 above (l ∷ a) b b' h f f' = by_line l.ok (judged (a ++ b)) (judged (a ++ b')) (above a b b' h) f f'
   where
     by_line : (ok : Bool) (v v' : Verdict) → (NotFull v → NotFull v' → v ≡ v')
-        → NotFull (cond ok v (Bad (refusal l.number l.place))) → NotFull (cond ok v' (Bad (refusal l.number l.place)))
-        → cond ok v (Bad (refusal l.number l.place)) ≡ cond ok v' (Bad (refusal l.number l.place))
+        → NotFull (cond ok v (Err (refusal (number_of l.why) (place_of l.why)))) → NotFull (cond ok v' (Err (refusal (number_of l.why) (place_of l.why))))
+        → cond ok v (Err (refusal (number_of l.why) (place_of l.why))) ≡ cond ok v' (Err (refusal (number_of l.why) (place_of l.why)))
     by_line true v v' same f f' = same f f'
     by_line false v v' same f f' = refl
 
@@ -123,7 +125,7 @@ handed_unless_full : (s : Settings) (t t' : State) (m m' : Rooms) → Sound s t 
 unfolding step_judged step_lines run_lines
 handed_unless_full s t t' m m' r r' same bar ls f f' =
     let start : List Line = run_lines s t' m' in
-    let whole : Line = line (eqb (length bar) (bar_words s.slots)) 13 0 in
+    let whole : Line = line (eqb (length bar) (bar_words s.slots)) Refusal.Records in
     let rest : List Line = bar_lines s.slots bar t'.counts.bars_seen ++ list_lines s.slots s.depth ls in
     let p : List Line = place_lines t.counts m.equity m.trades in
     let p' : List Line = place_lines t'.counts m'.equity m'.trades in

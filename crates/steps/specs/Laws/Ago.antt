@@ -1,10 +1,10 @@
 -- Operands n rows before the newest bar: laws that the translation rests on.
-use Rattle.std.specs.Prelude.{ℕ, ◌+◌, ◌-◌, ◌≤◌, ◌<◌, ◌≡◌, refl, Bool, true, false, not, cond, ◌&&◌, ltb, eqb}
+use Rattle.std.specs.Prelude.{ℕ, ◌+◌, ◌-◌, ◌≤◌, ◌<◌, ◌≡◌, refl, Bool, true, false, not, cond, ◌&&◌, ltb, eqb, Float, None, Option}
 use Rattle.words.specs.Prelude.{sym, ap, ◌∙◌, arith, sub-zero, lt-ltb, le-ltb}
 use Rattle.words.specs.Prelude.{ltb-true, ltb-false, eqb-true, eqb-false}
 use Rattle.rows.specs.{History.History}
 use Rattle.table.specs.{Trees.Operand, Trees.prev, Trees.arith as sums}
-use Rattle.rules.specs.{declared.values.Value.Value, declared.values.Value.TheVariants.Missing, Values.combined, Values.compared, Values.crossed}
+use Rattle.rules.specs.{Values.combined, Values.compared, Values.crossed}
 use Rattle.rules.specs.{Values.trended, Meaning.there, Meaning.value, Meaning.newest, Laws.Missing.compared_late, Laws.Missing.crossed_first, Laws.Meaning.past}
 use Rattle.steps.specs.{Machine.ago, Translation.trend_test}
 
@@ -13,8 +13,8 @@ module _ (h : History) where
   unfolding ago value combined
   arith_ago k a b n = go (ltb n h.rows)
     where
-      go : (t : Bool) → cond t (combined k (value h a (newest h - n)) (value h b (newest h - n))) Missing
-          ≡ combined k (cond t (value h a (newest h - n)) Missing) (cond t (value h b (newest h - n)) Missing)
+      go : (t : Bool) → cond t (combined k (value h a (newest h - n)) (value h b (newest h - n))) None
+          ≡ combined k (cond t (value h a (newest h - n)) None) (cond t (value h b (newest h - n)) None)
       go true = refl
       go false = refl
 
@@ -55,12 +55,12 @@ module _ (h : History) where
   pub now_ago : (a : Operand) → ago h a 0 ≡ value h a (newest h)
   now_ago a = at_ago a 0 (omega arith) ∙ ap (value h a) (sub-zero (newest h))
 
-  late_ago : (a : Operand) (n : ℕ) → newest h < n → ago h a n ≡ Missing
+  late_ago : (a : Operand) (n : ℕ) → newest h < n → ago h a n ≡ None
   unfolding ago newest
   late_ago a n l = rw (le-ltb n h.rows (omega arith))
 
 -- Rising and Falling are comparisons of their own
-trend_test_lem : (k : ℕ) (x y : Value) → compared (trend_test k) x y ≡ trended k x y
+trend_test_lem : (k : ℕ) (x y : Option Float) → compared (trend_test k) x y ≡ trended k x y
 unfolding trended
 trend_test_lem k x y = go (eqb k 25)
   where

@@ -1,11 +1,11 @@
 -- The steps of a tree answer what the tree means.
-use Rattle.std.specs.Prelude.{ℕ, ◌+◌, ◌≡◌, refl, Bool, true, false, not, cond, ◌&&◌, ◌||◌, List, [], ◌∷◌, ◌++◌, length}
+use Rattle.std.specs.Prelude.{ℕ, ◌+◌, ◌≡◌, refl, Bool, true, false, not, cond, ◌&&◌, ◌||◌, List, [], ◌∷◌, ◌++◌, length, Float, Option}
 use Rattle.words.specs.Prelude.{sym, ap, ◌∙◌, append_assoc, append-nil}
 use Rattle.rows.specs.{History.History}
 use Rattle.table.specs.{Trees.Operand, Trees.const, Trees.ref, Trees.price, Trees.prev, Trees.arith as sums, Trees.extreme, Trees.Condition, Trees.Conditions}
 use Rattle.table.specs.{Trees.compare, Trees.cross, Trees.between, Trees.trend, Trees.every, Trees.any, Trees.negated, Trees.in_position, Trees.bars_since}
 use Rattle.table.specs.{Trees.none, Trees.more}
-use Rattle.rules.specs.{declared.position.PositionState.PositionState, declared.values.Value.Value, Meaning.holds, Meaning.all_hold, Meaning.any_holds}
+use Rattle.rules.specs.{declared.position.PositionState.PositionState, Meaning.holds, Meaning.all_hold, Meaning.any_holds}
 use Rattle.rules.specs.{Meaning.newest, Meaning.says}
 use Rattle.steps.specs.{declared.step.Op.Op, declared.step.Op.TheVariants.Arith, declared.step.Op.TheVariants.Compare}
 use Rattle.steps.specs.{declared.step.Op.TheVariants.Cross, declared.step.Op.TheVariants.Between, declared.step.Op.TheVariants.Turn}
@@ -13,10 +13,10 @@ use Rattle.steps.specs.{declared.step.Op.TheVariants.JumpIf, Machine.Values, Mac
 use Rattle.steps.specs.{Machine.start, Machine.answers, Translation.code, Translation.code_of, Translation.code_each, Translation.trend_test}
 use Rattle.steps.specs.{Laws.Ago.arith_ago, Laws.Ago.prev-ago, Laws.Ago.now_ago, Laws.Ago.cross_ago, Laws.Ago.trend_ago}
 
-abbrev holding : Bool → List Value → Values
+abbrev holding : Bool → List (Option Float) → Values
 holding b vs = record { stack = vs; answer = b }
 
-abbrev push : Value → Values → Values
+abbrev push : Option Float → Values → Values
 push v x = record { stack = v ∷ x.stack; answer = x.answer }
 
 module _ (h : History) (s : PositionState) where
@@ -55,7 +55,7 @@ module _ (h : History) (s : PositionState) where
       )
 
   -- a child's answer b, and t for the rest: All (w is no) goes on at a yes, Any (w is yes) at a no
-  each_next : (w b t : Bool) (ys xs : List Op) (vs : List Value) → run h s (ys ++ xs) 0 (holding (not w) vs) ≡ run h s xs 0 (holding t vs)
+  each_next : (w b t : Bool) (ys xs : List Op) (vs : List (Option Float)) → run h s (ys ++ xs) 0 (holding (not w) vs) ≡ run h s xs 0 (holding t vs)
       → run h s (JumpIf w (length ys) ∷ ys ++ xs) 0 (holding b vs) ≡ run h s xs 0 (holding (cond w (b || t) (b && t)) vs)
   unfolding run does effect after_step
   each_next true true t ys xs vs ih = passed ys xs (holding true vs)
@@ -94,7 +94,7 @@ module _ (h : History) (s : PositionState) where
     condition_run (in_position w) xs v = refl
     condition_run (bars_since p k) xs v = refl
 
-    all_run : (cs : Conditions) (xs : List Op) (vs : List Value)
+    all_run : (cs : Conditions) (xs : List Op) (vs : List (Option Float))
         → run h s (code_each false cs ++ xs) 0 (holding true vs) ≡ run h s xs 0 (holding (all_hold h s cs (newest h)) vs)
     all_run none xs vs = refl
     all_run (more c cs) xs vs =
@@ -104,7 +104,7 @@ module _ (h : History) (s : PositionState) where
         )
         (each_next false (holds h s c (newest h)) (all_hold h s cs (newest h)) (code_each false cs) xs vs (all_run cs xs vs))
 
-    any-run : (cs : Conditions) (xs : List Op) (vs : List Value)
+    any-run : (cs : Conditions) (xs : List Op) (vs : List (Option Float))
         → run h s (code_each true cs ++ xs) 0 (holding false vs) ≡ run h s xs 0 (holding (any_holds h s cs (newest h)) vs)
     any-run none xs vs = refl
     any-run (more c cs) xs vs =

@@ -3,7 +3,7 @@ use Rattle.words.specs.Prelude.{◌∙◌}
 use Rattle.words.specs.Prelude.{sym}
 use Rattle.words.specs.Prelude.{ap}
 use Rattle.steps.specs.declared.step.Op.TheVariants.{Unknown}
-use Rattle.std.specs.Prelude.{ℕ, ◌+◌, ◌-◌, ◌*◌, ◌%◌, ◌<◌, ◌≤◌, ◌≡◌, refl, true, ◌&&◌, List, [], ◌∷◌, ◌++◌, length}
+use Rattle.std.specs.Prelude.{ℕ, ◌+◌, ◌-◌, ◌*◌, ◌%◌, ◌<◌, ◌≤◌, ◌≡◌, refl, true, ◌&&◌, List, [], ◌∷◌, ◌++◌, length, Ok}
 use Rattle.words.specs.Prelude.{append_assoc, arith, length-append, lt-ltb}
 use Rattle.words.specs.Prelude.{le-ltb, le-leb, eq-eqb}
 use Rattle.words.specs.{Limits.most_slots, Limits.most_rows, Limits.most_steps}
@@ -12,7 +12,7 @@ use Rattle.steps.specs.{declared.step.Op.Op, declared.step.Op.TheVariants.Extrem
 use Rattle.steps.specs.{declared.step.Op.TheVariants.Ref, declared.step.Op.TheVariants.Price, declared.step.Op.TheVariants.Arith}
 use Rattle.steps.specs.{declared.step.Op.TheVariants.Compare, declared.step.Op.TheVariants.Cross, declared.step.Op.TheVariants.Between}
 use Rattle.steps.specs.{declared.step.Op.TheVariants.Answer, declared.step.Op.TheVariants.Turn, declared.step.Op.TheVariants.InPosition}
-use Rattle.steps.specs.{declared.step.Op.TheVariants.BarsSinceEntry, declared.step.Op.TheVariants.JumpIf, declared.wellformed.Formed.TheVariants.Well}
+use Rattle.steps.specs.{declared.step.Op.TheVariants.BarsSinceEntry, declared.step.Op.TheVariants.JumpIf}
 use Rattle.steps.specs.{Bytes.extreme_step, Bytes.step_of, Bytes.step_bytes, Bytes.bytes_of, Bytes.steps_in, Bytes.ops_of, WellFormed.zeros, WellFormed.rows_fit}
 use Rattle.steps.specs.{WellFormed.unused_fields_zero, WellFormed.series_within, WellFormed.looks_within, WellFormed.bounded, WellFormed.good_step}
 use Rattle.steps.specs.{WellFormed.formed_from, WellFormed.formed, Laws.Encoding.SayableSeries, Laws.Encoding.Sayable, Laws.Encoding.AllSayable}
@@ -78,19 +78,19 @@ module _ (K D : ℕ) (few : K ≤ most_slots) (near : D ≤ most_rows) where
   unfolding good_step
   good_step_lem after x g = rw (says_back x (sayable after x g)) (right_is after x g)
 
-  well_from : (pre : List ℕ) (p : ℕ) → length pre ≡ 16 * p → (xs : List Op) → AllFieldsRight K D xs → formed_from K D (pre ++ bytes_of xs) p (length xs) ≡ Well
+  well_from : (pre : List ℕ) (p : ℕ) → length pre ≡ 16 * p → (xs : List Op) → AllFieldsRight K D xs → formed_from K D (pre ++ bytes_of xs) p (length xs) ≡ Ok tt
   unfolding formed_from AllFieldsRight bytes_of
   well_from pre p e [] g = refl
   well_from pre p e (x ∷ xs) g =
       let sb : List ℕ = step_bytes (step_of x) in
       let sixteen : length sb ≡ 16 = unfold step_bytes in refl in
-      let rest : formed_from K D ((pre ++ sb) ++ bytes_of xs) (p + 1) (length xs) ≡ Well =
+      let rest : formed_from K D ((pre ++ sb) ++ bytes_of xs) (p + 1) (length xs) ≡ (Ok tt) =
       well_from (pre ++ sb) (p + 1) (omega (arith, length-append pre sb)) xs g.1 in
       rw (step_there pre p e x (bytes_of xs) (sayable (length xs) x g.0), good_step_lem (length xs) x g.0)
       (ap (λ (l : List ℕ). formed_from K D l (p + 1) (length xs)) (sym (append_assoc pre sb (bytes_of xs))) ∙ rest)
 
   -- the bytes of steps with right fields are a well_formed list
-  pub well_formed : (xs : List Op) → length xs ≤ most_steps → AllFieldsRight K D xs → formed K D (bytes_of xs) ≡ Well
+  pub well_formed : (xs : List Op) → length xs ≤ most_steps → AllFieldsRight K D xs → formed K D (bytes_of xs) ≡ Ok tt
   unfolding formed
   well_formed xs short g =
       let long : length (bytes_of xs) ≡ 16 * length xs = steps_long xs in

@@ -17,12 +17,12 @@ pub check_reach-requires : goal.check_reach-requires
 unfolding from8
 check_reach-requires c = search rules
 
-pub returns-in-At : goal.returns-in-At
+pub returns-in-Some : goal.returns-in-Some
 unfolding from8
-returns-in-At c = stage_at 8 _ _ _ _ _ _ (sym c.too_deep-deep.ensures ∙ c.in-At.is) c.refused.ensures.0 c.refused.ensures.1
+returns-in-Some c = stage_at 8 _ _ _ _ _ _ (sym c.too_deep-deep.ensures ∙ c.in-Some.is) c.refused.ensures.0 c.refused.ensures.1
 
-pub returns-in-Nowhere : goal.returns-in-Nowhere
+pub returns-in-None : goal.returns-in-None
 unfolding from8
-returns-in-Nowhere c =
+returns-in-None c =
     let told = c.check_reach.ensures in
-    stage_none 8 _ _ _ _ _ (sym c.too_deep-deep.ensures ∙ c.in-Nowhere.is) told.0 told.1
+    stage_none 8 _ _ _ _ _ (sym c.too_deep-deep.ensures ∙ c.in-None.is) told.0 told.1

@@ -10,17 +10,17 @@ check_order-requires c =
     c.root-short_exit.ensures.0
     c.total-total.ensures.0
 
-pub returns-in-At : goal.returns-in-At
-returns-in-At c =
+pub returns-in-Some : goal.returns-in-Some
+returns-in-Some c =
     six_at _ _ _ _ _
     c.requires _
     c.total-total.ensures.0 _
-    c.wrong_node-wrong.ensures _ c.in-At.is c.refused.ensures.0 c.refused.ensures.1
+    c.wrong_node-wrong.ensures _ c.in-Some.is c.refused.ensures.0 c.refused.ensures.1
 
-pub returns-in-Nowhere : goal.returns-in-Nowhere
-returns-in-Nowhere c =
+pub returns-in-None : goal.returns-in-None
+returns-in-None c =
     six_none _ _ _ _ _
     c.requires _
     c.total-total.ensures.0 _
     c.wrong_node-wrong.ensures
-    c.in-Nowhere.is c.check_order.ensures.0 c.check_order.ensures.1
+    c.in-None.is c.check_order.ensures.0 c.check_order.ensures.1

@@ -9,19 +9,19 @@ pub check_nesting-requires : goal.check_nesting-requires
 check_nesting-requires c = record {
   roots = c.requires;
   linked_all = linked_all _ _ _ c.requires
-      c.order_all-ends.ensures (sym c.misfits_of-bad.ensures ∙ c.in-Nowhere.is);
+      c.order_all-ends.ensures (sym c.misfits_of-bad.ensures ∙ c.in-None.is);
 }
 
-pub returns-in-At : goal.returns-in-At
+pub returns-in-Some : goal.returns-in-Some
 unfolding from7
-returns-in-At c =
+returns-in-Some c =
     stage_at 7 _ _ _ _ _ _
-    (sym c.misfits_of-bad.ensures ∙ c.in-At.is) c.refused.ensures.0 c.refused.ensures.1
+    (sym c.misfits_of-bad.ensures ∙ c.in-Some.is) c.refused.ensures.0 c.refused.ensures.1
 
-pub returns-in-Nowhere : goal.returns-in-Nowhere
+pub returns-in-None : goal.returns-in-None
 unfolding from7
-returns-in-Nowhere c =
-    let none = sym c.misfits_of-bad.ensures ∙ c.in-Nowhere.is in
+returns-in-None c =
+    let none = sym c.misfits_of-bad.ensures ∙ c.in-None.is in
     let t = c.args.t.now in
     let links =
     linked_all t _ _ c.requires

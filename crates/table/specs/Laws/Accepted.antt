@@ -1,43 +1,43 @@
 -- What an accepted table is: every rule is kept, and what follows for each of its trees.
 -- Assumes nothing.
-use Rattle.std.specs.Prelude.{◌≡◌, refl, Bool, true, false, cond, List, [], ◌∷◌, ℕ, zero, suc, ◌+◌, ◌-◌, ◌≤◌, ◌<◌, get_or, ltb, eqb}
+use Rattle.std.specs.Prelude.{◌≡◌, refl, Bool, true, false, cond, List, [], ◌∷◌, ℕ, zero, suc, ◌+◌, ◌-◌, ◌≤◌, ◌<◌, get_or, ltb, eqb, Err, None, Option, Result, Some}
 use Rattle.words.specs.Prelude.{sym, ◌∙◌, ap, subst, arith, eq-zero-or-pos}
 use Rattle.words.specs.Prelude.{zero-add, add-zero, ⊎_elim, eqb-true, ne_eqb, lt-ltb, le-ltb}
-use Rattle.words.specs.{Limits.most_reach, Limits.most_nesting, Limits.most_nodes, declared.refusal.Refusal.Refusal, Outcome.refusal}
-use Rattle.table.specs.{declared.places.Place.Place, declared.places.Place.TheVariants.Nowhere, declared.places.Place.TheVariants.At}
-use Rattle.table.specs.{declared.answer.Answer.Answer, declared.answer.Answer.TheVariants.Accepted, declared.answer.Answer.TheVariants.Refused}
+use Rattle.words.specs.{Limits.most_reach, Limits.most_nesting, Limits.most_nodes, declared.refusal.Refusal.Refusal}
 use Rattle.table.specs.{Header.newest_version, Header.total, Header.count, Header.root, Header.header_refusal, Nodes.node_right, Nodes.wrong_node, Order.fits}
 use Rattle.table.specs.{Order.misfit, Order.misfits, Order.or_place, Order.of_four, Forest.trees, Forest.sorts, Forest.Sorted, Forest.forest_of}
 use Rattle.table.specs.{Nesting.deeper, Nesting.too_deep, Reach.tree_reach, Reach.far_at, Reach.too_far, Reach.rows_needed, Checked.or_refused}
 use Rattle.table.specs.{Checked.or_header, Checked.from9, Checked.from8, Checked.from7, Checked.checked_up_to, Checked.checked, Ends.end_at, Ends.end_of_node}
 use Rattle.table.specs.{Ends.ends_all, Ends.ends_for, Ends.ends_beside, Ends.Link, Ends.Linked, Laws.Ends.from_at, Laws.Header.HeaderRight}
 use Rattle.table.specs.{Laws.Header.header_right, Laws.Order.never_at, Laws.Order.test_held, Laws.Order.sorts-trees, Laws.Order.each, Laws.Order.link_end}
+use Rattle.table.specs.{declared.answer.Accepted.Accepted}
+use Rattle.table.specs.{Outcome.accepts}
 
 -- ---- from the answer to the rules
 
-refused_not : (why : Refusal) (n r : ℕ) → Refused why ≡ Accepted n r → ⊥
+refused_not : (why : Refusal) (n r : ℕ) → Err why ≡ accepts n r → ⊥
 refused_not why n r h = let z : ◌≡◌ {A = ℕ} 0 1 = cc in omega arith
 
-rule_kept : (nr n r : ℕ) (q : Place) (a : Answer) → or_refused nr q a ≡ Accepted n r → (q ≡ Nowhere) × (a ≡ Accepted n r)
+rule_kept : (nr n r : ℕ) (q : Option ℕ) (a : Result Accepted Refusal) → or_refused nr q a ≡ accepts n r → (q ≡ None) × (a ≡ accepts n r)
 unfolding or_refused
-rule_kept nr n r Nowhere a h = (refl, h)
-rule_kept nr n r (At p) a h = absurd (refused_not _ n r h)
+rule_kept nr n r None a h = (refl, h)
+rule_kept nr n r (Some p) a h = absurd (refused_not _ n r h)
 
-header_kept : (b : Bool) (nr n r : ℕ) (a : Answer) → cond b a (Refused (refusal nr 0)) ≡ Accepted n r → (b ≡ true) × (a ≡ Accepted n r)
+header_kept : (b : Bool) (nr n r : ℕ) (a : Result Accepted Refusal) → cond b a (Err (refusal nr 0)) ≡ accepts n r → (b ≡ true) × (a ≡ accepts n r)
 header_kept true nr n r a h = (refl, h)
 header_kept false nr n r a h = absurd (refused_not _ n r h)
 
 -- Every rule is kept, and the answer's two numbers are those of the paper.
 pub record RulesKept (t : List ℕ) (n r : ℕ) : Type 0 where
   pub header : header_refusal newest_version t ≡ 0
-  pub own : wrong_node t (total t) 0 ≡ Nowhere
-  pub order : misfits t ≡ Nowhere
-  pub nesting : too_deep t ≡ Nowhere
-  pub reaches : too_far t ≡ Nowhere
+  pub own : wrong_node t (total t) 0 ≡ None
+  pub order : misfits t ≡ None
+  pub nesting : too_deep t ≡ None
+  pub reaches : too_far t ≡ None
   pub nodes : n ≡ total t
   pub rows : r ≡ rows_needed t
 
-pub accepted : (t : List ℕ) (n r : ℕ) → checked t ≡ Accepted n r → RulesKept t n r
+pub accepted : (t : List ℕ) (n r : ℕ) → checked t ≡ accepts n r → RulesKept t n r
 unfolding checked checked_up_to or_header from7 from8 from9
 accepted t n r h =
     let h0 = header_kept (eqb (header_refusal newest_version t) 0) (header_refusal newest_version t) n r _ h in
@@ -56,13 +56,13 @@ accepted t n r h =
     }
 
 -- and the other way round
-pub all_kept : (t : List ℕ) (n r : ℕ) → RulesKept t n r → checked t ≡ Accepted n r
+pub all_kept : (t : List ℕ) (n r : ℕ) → RulesKept t n r → checked t ≡ accepts n r
 unfolding checked checked_up_to or_header or_refused from7 from8 from9
 all_kept t n r k = rw (k.header, k.own, k.order, k.nesting, k.reaches) (cc (k.nodes, k.rows))
 
 -- ---- from the rules to each node and each tree
 
-right_from : (t : List ℕ) (m i j : ℕ) → wrong_node t m i ≡ Nowhere → j < m → node_right t (i + j) ≡ true
+right_from : (t : List ℕ) (m i j : ℕ) → wrong_node t m i ≡ None → j < m → node_right t (i + j) ≡ true
 unfolding wrong_node
 right_from t zero i j h l = absurd (none_below l)
   where
@@ -73,12 +73,12 @@ right_from t (suc m) i (suc j) h l =
     let place : i + suc j ≡ i + 1 + j = omega arith in
     rw place (right_from t m (i + 1) j (test_held (node_right t i) _ i h).1 (omega arith))
 
-pub or_none : (p q : Place) → or_place p q ≡ Nowhere → (p ≡ Nowhere) × (q ≡ Nowhere)
+pub or_none : (p q : Option ℕ) → or_place p q ≡ None → (p ≡ None) × (q ≡ None)
 unfolding or_place
-or_none Nowhere q h = (refl, h)
-or_none (At x) q h = absurd (never_at x h)
+or_none None q h = (refl, h)
+or_none (Some x) q h = absurd (never_at x h)
 
-pub of_four_lem : (f : ℕ → Place) → of_four f ≡ Nowhere → (x : ℕ) → x < 4 → f x ≡ Nowhere
+pub of_four_lem : (f : ℕ → Option ℕ) → of_four f ≡ None → (x : ℕ) → x < 4 → f x ≡ None
 unfolding of_four
 of_four_lem f h x l =
     let h0 = or_none (f 0) (or_place (f 1) (or_place (f 2) (f 3))) h in
@@ -86,7 +86,7 @@ of_four_lem f h x l =
     let h2 = or_none (f 2) (f 3) h1.1 in
     pick h0.0 h1.0 h2.0 h2.1 x l
   where
-    pick : f 0 ≡ Nowhere → f 1 ≡ Nowhere → f 2 ≡ Nowhere → f 3 ≡ Nowhere → (x : ℕ) → x < 4 → f x ≡ Nowhere
+    pick : f 0 ≡ None → f 1 ≡ None → f 2 ≡ None → f 3 ≡ None → (x : ℕ) → x < 4 → f x ≡ None
     pick a b c d zero l = a
     pick a b c d (suc zero) l = b
     pick a b c d (suc (suc zero)) l = c
@@ -139,7 +139,7 @@ pub record WholeTree (t ends : List ℕ) (b e : ℕ) : Type 0 where
   pub sorted : (i : ℕ) → b ≤ i → i < e → Sorted (trees t (e - i) i)
   pub own : (i : ℕ) → b ≤ i → i < e → node_right t i ≡ true
 
-module _ (t : List ℕ) (n r : ℕ) (ok : checked t ≡ Accepted n r) where
+module _ (t : List ℕ) (n r : ℕ) (ok : checked t ≡ accepts n r) where
   kept : RulesKept t n r
   kept = accepted t n r ok
 
@@ -159,7 +159,7 @@ module _ (t : List ℕ) (n r : ℕ) (ok : checked t ≡ Accepted n r) where
     unfolding root
     tree_ends = omega (arith, root_up t x l, header_of_lem.sums)
 
-    pub tree_nesting : deeper most_nesting (forest_of t x) ≡ Nowhere
+    pub tree_nesting : deeper most_nesting (forest_of t x) ≡ None
     unfolding too_deep
     tree_nesting = of_four_lem (λ y. deeper most_nesting (forest_of t y)) kept.nesting x l
 
@@ -167,12 +167,12 @@ module _ (t : List ℕ) (n r : ℕ) (ok : checked t ≡ Accepted n r) where
     unfolding too_far far_at
     tree_reach_lem = near (tree_reach t x) (root t x) (of_four_lem (λ y. far_at (tree_reach t y) (root t y)) kept.reaches x l)
       where
-        near : (far b : ℕ) → cond (ltb most_reach far) (At b) Nowhere ≡ Nowhere → far ≤ most_reach
+        near : (far b : ℕ) → cond (ltb most_reach far) (Some b) None ≡ None → far ≤ most_reach
         near far b h =
             ⊎_elim (λ z. omega arith) (λ z. absurd (never_at b (sym (rw (lt-ltb most_reach far (omega arith))) ∙ h))) (eq-zero-or-pos (far - most_reach))
 
     -- a tree that is there is one condition
-    tree_fits : 0 < count t x → fits t (count t x) (root t x) (2 ∷ []) ≡ Nowhere
+    tree_fits : 0 < count t x → fits t (count t x) (root t x) (2 ∷ []) ≡ None
     unfolding misfits misfit
     tree_fits some = simp (ne_eqb (count t x) 0 (λ z. omega arith)) at (of_four_lem (λ y. misfit t (count t y) (root t y)) kept.order x l)
 
@@ -181,7 +181,7 @@ module _ (t : List ℕ) (n r : ℕ) (ok : checked t ≡ Accepted n r) where
     tree_sorts some = sorts-trees t (count t x) (root t x) (2 ∷ []) (tree_fits some)
 
     -- its nodes, from its root up to the next tree's
-    region : 0 < count t x → fits t (root t (suc x) - root t x) (root t x) (2 ∷ []) ≡ Nowhere
+    region : 0 < count t x → fits t (root t (suc x) - root t x) (root t x) (2 ∷ []) ≡ None
     unfolding root
     region some =
         let many : root t x + count t x - root t x ≡ count t x = omega arith in

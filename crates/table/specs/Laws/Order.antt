@@ -1,38 +1,38 @@
 -- Laws of rule 7: where it is kept, each node has the children that its kind takes, and its end leads past its subtree.
 -- Assumes nothing.
-use Rattle.std.specs.Prelude.{◌≡◌, refl, Bool, true, false, cond, List, [], ◌∷◌, ◌++◌, ℕ, zero, suc, ◌+◌, ◌-◌, ◌≤◌, ◌<◌, length, replicate, eqb}
+use Rattle.std.specs.Prelude.{◌≡◌, refl, Bool, true, false, cond, List, [], ◌∷◌, ◌++◌, ℕ, zero, suc, ◌+◌, ◌-◌, ◌≤◌, ◌<◌, length, replicate, eqb, None, Option, Some}
 use Rattle.words.specs.Prelude.{sym, ◌∙◌, ap, subst, append_assoc}
 use Rattle.words.specs.Prelude.{arith, zero-add, suc-add, add-zero, sub-zero, eqb-true, length-append, length-replicate}
-use Rattle.table.specs.{declared.places.Place.Place, declared.places.Place.TheVariants.Nowhere, declared.places.Place.TheVariants.At, Nodes.node_at}
+use Rattle.table.specs.{Nodes.node_at}
 use Rattle.table.specs.{Nodes.sort_at, Nodes.child_count_at, Nodes.child_sort_at, Nodes.child_fits_at, Order.fits, Forest.first_trees, Forest.other_trees}
 use Rattle.table.specs.{Forest.node_over, Forest.trees, Forest.size, Forest.sorts, Forest.Fitting, Forest.Sorted, Ends.place_or, Ends.end_at, Ends.Link}
 use Rattle.table.specs.{Laws.Forest.left_suc, Laws.Forest.other_other, Laws.Forest.size_split, Laws.Forest.sorts_first, Laws.Forest.sorted_first}
 
-pub never_at : (i : ℕ) → At i ≡ Nowhere → ⊥
+pub never_at : (i : ℕ) → Some i ≡ None → ⊥
 never_at i e = let z : ◌≡◌ {A = ℕ} 0 1 = cc in omega arith
 
 -- a test that gives a place where it fails has held where there is none
-pub test_held : (b : Bool) (p : Place) (i : ℕ) → cond b p (At i) ≡ Nowhere → (b ≡ true) × (p ≡ Nowhere)
+pub test_held : (b : Bool) (p : Option ℕ) (i : ℕ) → cond b p (Some i) ≡ None → (b ≡ true) × (p ≡ None)
 test_held true p i h = (refl, h)
 test_held false p i h = absurd (never_at i h)
 
 -- A node is of the sort that is wanted, the rest fits, and its first child is one that it takes.
-pub wanted_first : (t : List ℕ) (m i w : ℕ) (ws : List ℕ) → fits t (suc m) i (w ∷ ws) ≡ Nowhere
-    → (sort_at t i ≡ w) × (fits t m (i + 1) (replicate (child_count_at t i) (child_sort_at t i) ++ ws) ≡ Nowhere) × (child_fits_at t i ≡ true)
+pub wanted_first : (t : List ℕ) (m i w : ℕ) (ws : List ℕ) → fits t (suc m) i (w ∷ ws) ≡ None
+    → (sort_at t i ≡ w) × (fits t m (i + 1) (replicate (child_count_at t i) (child_sort_at t i) ++ ws) ≡ None) × (child_fits_at t i ≡ true)
 unfolding fits
 wanted_first t m i w ws h =
     let sort = test_held (eqb (sort_at t i) w) _ i h in
     let child = test_held (child_fits_at t i) _ (i + 1) sort.1 in
     (eqb-true _ _ sort.0, child.1, child.0)
 
-pub first_sort : (t : List ℕ) (e i w : ℕ) (ws : List ℕ) → i < e → fits t (e - i) i (w ∷ ws) ≡ Nowhere → sort_at t i ≡ w
+pub first_sort : (t : List ℕ) (e i w : ℕ) (ws : List ℕ) → i < e → fits t (e - i) i (w ∷ ws) ≡ None → sort_at t i ≡ w
 first_sort t e i w ws l h = (wanted_first t (e - (i + 1)) i w ws (ap (λ (m : ℕ). fits t m i (w ∷ ws)) (sym (left_suc e i l)) ∙ h)).0
 
-fits-none : (t : List ℕ) (m i : ℕ) → fits t (suc m) i [] ≡ Nowhere → ⊥
+fits-none : (t : List ℕ) (m i : ℕ) → fits t (suc m) i [] ≡ None → ⊥
 unfolding fits
 fits-none t m i h = never_at i h
 
-fits_short : (t : List ℕ) (i w : ℕ) (ws : List ℕ) → fits t zero i (w ∷ ws) ≡ Nowhere → ⊥
+fits_short : (t : List ℕ) (i w : ℕ) (ws : List ℕ) → fits t zero i (w ∷ ws) ≡ None → ⊥
 unfolding fits
 fits_short t i w ws h = never_at i h
 
@@ -43,7 +43,7 @@ fitting_first t zero i (suc k) h = tt
 fitting_first t (suc m) i (suc k) h = h
 
 -- The sorts of the trees are those wanted, and each node has the children that its kind takes.
-pub sorts-trees : (t : List ℕ) (m i : ℕ) (ws : List ℕ) → fits t m i ws ≡ Nowhere → (sorts (trees t m i) ≡ ws) × Sorted (trees t m i)
+pub sorts-trees : (t : List ℕ) (m i : ℕ) (ws : List ℕ) → fits t m i ws ≡ None → (sorts (trees t m i) ≡ ws) × Sorted (trees t m i)
 unfolding trees node_over sorts Sorted sort_at child_count_at child_sort_at
 sorts-trees t zero i [] h = (refl, tt)
 sorts-trees t zero i (w ∷ ws) h = absurd (fits_short t i w ws h)
@@ -56,15 +56,15 @@ sorts-trees t (suc m) i (w ∷ ws) h =
     (cc (s.1, first.0), (s.0, f.0, f.1, fitting_first t m i (child_count_at t i) first.2))
 
 -- Each node of a row of trees stands where a node is wanted, and the rest fits.
-pub each : (t : List ℕ) (m i k : ℕ) (ws : List ℕ) → fits t m i ws ≡ Nowhere → k < m
-    → (us : List ℕ) × (fits t (m - k) (i + k) (sort_at t (i + k) ∷ us) ≡ Nowhere)
+pub each : (t : List ℕ) (m i k : ℕ) (ws : List ℕ) → fits t m i ws ≡ None → k < m
+    → (us : List ℕ) × (fits t (m - k) (i + k) (sort_at t (i + k) ∷ us) ≡ None)
 each t zero i k ws h l = absurd (none_below k l)
   where
     none_below : (k : ℕ) → k < 0 → ⊥
     none_below k l = omega arith
 each t (suc m) i k [] h l = absurd (fits-none t m i h)
 each t (suc m) i zero (w ∷ ws) h l =
-    (ws, rw (sub-zero (suc m), add-zero i) (subst (λ (x : ℕ). fits t (suc m) i (x ∷ ws) ≡ Nowhere) (sym (wanted_first t m i w ws h).0) h))
+    (ws, rw (sub-zero (suc m), add-zero i) (subst (λ (x : ℕ). fits t (suc m) i (x ∷ ws) ≡ None) (sym (wanted_first t m i w ws h).0) h))
 each t (suc m) i (suc k) (w ∷ ws) h l =
     let g = each t m (i + 1) k (replicate (child_count_at t i) (child_sort_at t i) ++ ws) (wanted_first t m i w ws h).1 (omega arith) in
     let less : suc m - suc k ≡ m - k = omega arith in
@@ -121,7 +121,7 @@ skip_none t m j =
       many = refl;
     }
 
-skip : (t : List ℕ) (m j : ℕ) (vs ws : List ℕ) → fits t m j (vs ++ ws) ≡ Nowhere → Skip t m j vs
+skip : (t : List ℕ) (m j : ℕ) (vs ws : List ℕ) → fits t m j (vs ++ ws) ≡ None → Skip t m j vs
 unfolding fits other_trees first_trees size trees node_over
 skip t zero j [] ws h = skip_none t zero j
 skip t zero j (v ∷ vs) ws h = absurd (never_at j h)
@@ -143,7 +143,7 @@ some_size : (t : List ℕ) (e j : ℕ) → j < e → 0 < size (first_trees 1 (tr
 unfolding size first_trees trees node_over
 some_size t e j h = rw (left_suc e j h) (omega arith)
 
-link_here : (t : List ℕ) (e j : ℕ) (us : List ℕ) → j < e → fits t (e - j) j (sort_at t j ∷ us) ≡ Nowhere → Link t e j (end_at t (e - j) j)
+link_here : (t : List ℕ) (e j : ℕ) (us : List ℕ) → j < e → fits t (e - j) j (sort_at t j ∷ us) ≡ None → Link t e j (end_at t (e - j) j)
 unfolding end_at
 link_here t e j us hi g = subst (λ (v : ℕ). Link t e j v) (sym place) there
   where
@@ -164,7 +164,7 @@ link_here t e j us hi g = subst (λ (v : ℕ). Link t e j v) (sym place) there
       counts = ap (λ (n : ℕ). j + n) k.many;
     }
 
-pub link_end : (t : List ℕ) (b e j : ℕ) (ws : List ℕ) → fits t (e - b) b ws ≡ Nowhere → b ≤ j → j < e → Link t e j (end_at t (e - j) j)
+pub link_end : (t : List ℕ) (b e j : ℕ) (ws : List ℕ) → fits t (e - b) b ws ≡ None → b ≤ j → j < e → Link t e j (end_at t (e - j) j)
 link_end t b e j ws h lo hi =
     let g = each t (e - b) b (j - b) ws h (omega arith) in
     let less : e - b - (j - b) ≡ e - j = omega arith in

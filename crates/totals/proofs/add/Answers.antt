@@ -57,8 +57,8 @@ overflow_add-traded c =
     let good = c.well_formed in
     omega (arith, c.traded-traded.ensures, traded_most c.counts_of-counts.result small.1)
 
-pub returns-in-Refused : goal.returns-in-Refused
-returns-in-Refused c =
+pub returns-in-Err : goal.returns-in-Err
+returns-in-Err c =
     let judged_so : (let a = c.args in add_answer a.totals.now a.trades.now ≡ c.first_of-judgement.result) = let fine_held : counts_fine (counts_of c.args.totals.now) ≡ true = let fine_read : counts_fine c.counts_of-counts.result ≡ true = sym c.fine.ensures ∙ so _ c.if-not-fine.false-raw in
     ap counts_fine (sym c.counts_of-counts.ensures) ∙ fine_read in
     let start = c.args in
@@ -69,7 +69,7 @@ returns-in-Refused c =
     add_judged start.totals.now trades c.if-totals-lt-TOTAL_WORDS.false c.if-trades-ne0.false
     fine_held many judged (ap (λ (k : ℕ). k + length trades / trade_words) traded) c.bad_trade-bad.ensures c.too_many-many.ensures
     c.first_of-judgement.ensures in
-    let told = judged_so ∙ c.in-Refused.is in
+    let told = judged_so ∙ c.in-Err.is in
     (sym told, add_keeps _ _ _ told)
 
 pub returns : goal.returns

@@ -8,18 +8,18 @@ pub returns-then-within_profile : goal.returns-then-within_profile
 unfolding profile_judged after_table judged
 returns-then-within_profile c =
     rw (
-      sym c.check-checked.ensures.0 ∙ c.in-Accepted.is,
+      sym c.check-checked.ensures.0 ∙ c.in-Ok.is,
       sym c.within_profile.ensures ∙ c.if-within_profile.true,
     )
 
-pub returns-in-Refused : goal.returns-in-Refused
+pub returns-in-Err : goal.returns-in-Err
 unfolding profile_judged after_table
-returns-in-Refused c = rw (sym c.check-checked.ensures.0 ∙ c.in-Refused.is)
+returns-in-Err c = rw (sym c.check-checked.ensures.0 ∙ c.in-Err.is)
 
 pub returns-else-within_profile : goal.returns-else-within_profile
 unfolding profile_judged after_table judged
 returns-else-within_profile c =
     rw (
-      sym c.check-checked.ensures.0 ∙ c.in-Accepted.is,
+      sym c.check-checked.ensures.0 ∙ c.in-Ok.is,
       sym c.within_profile.ensures ∙ c.if-within_profile.false,
     )

@@ -2,10 +2,10 @@
 use Rattle.accounts.specs.{Profile.leverage_within}
 use Rattle.accounts.proofs.profile.leverage_within.Goals as goal
 
-pub returns-in-Absent : goal.returns-in-Absent
+pub returns-in-None : goal.returns-in-None
 unfolding leverage_within
-returns-in-Absent c = rw c.in-Absent.is
+returns-in-None c = rw c.in-None.is
 
-pub returns-in-Of : goal.returns-in-Of
+pub returns-in-Some : goal.returns-in-Some
 unfolding leverage_within
-returns-in-Of c = rw c.in-Of.is
+returns-in-Some c = rw c.in-Some.is

@@ -11,12 +11,12 @@ pub judge_stream-requires : goal.judge_stream-requires
 unfolding stream_taken
 judge_stream-requires c = search rules
 
-pub returns-in-Bad : goal.returns-in-Bad
+pub returns-in-Err : goal.returns-in-Err
 unfolding stream_taken taken_unless
-returns-in-Bad c =
+returns-in-Err c =
     rw (
       sym c.is_empty.ensures ∙ c.if-is_empty.false,
-      sym c.judge_stream.ensures ∙ c.in-Bad.is,
+      sym c.judge_stream.ensures ∙ c.in-Err.is,
     )
 
 pub take_whole-requires : goal.take_whole-requires

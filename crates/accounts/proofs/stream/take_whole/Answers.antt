@@ -39,10 +39,10 @@ slice_bounds-judge_next-end c =
     omega (arith, record_ends (length c.args.bars.now) (bar_words c.args.slots) (omega arith) c.loop-done.done (omega arith))
 
 -- a bar is refused
-pub returns-in-Bad : goal.returns-in-Bad
-returns-in-Bad c =
+pub returns-in-Err : goal.returns-in-Err
+returns-in-Err c =
     sym (left_stops _ _ _ _ _ c.loop-done.done (omega arith) c.loop-done.invariant _
-    (sym c.judge_next-verdict.ensures ∙ c.in-Bad.is))
+    (sym c.judge_next-verdict.ensures ∙ c.in-Err.is))
 
 pub loop-done-preserved : goal.loop-done-preserved
 loop-done-preserved c =

@@ -7,19 +7,19 @@ use Rattle.capi.proofs.bars.ysh_finish.Goals as goal
 pub judge_rooms-requires : goal.judge_rooms-requires
 judge_rooms-requires c = c.settings_of-chosen.ensures
 
-pub returns-in-Bad : goal.returns-in-Bad
-returns-in-Bad c =
+pub returns-in-Err : goal.returns-in-Err
+returns-in-Err c =
     finish_short _ _ _ _ (c.first_bad-lent.ensures ∙ two_blocks _ _ c.judge_rooms.ensures c.judge_metrics-below.ensures)
-    c.in-Bad.is c.answer_word.ensures
+    c.in-Err.is c.answer_word.ensures
 
-pub returns-in-Refused : goal.returns-in-Refused
-returns-in-Refused c =
+pub returns-in-Err : goal.returns-in-Err
+returns-in-Err c =
     finish_refused _ _ _ _ (c.first_bad-lent.ensures ∙ two_blocks _ _ c.judge_rooms.ensures c.judge_metrics-below.ensures)
-    c.in_default.is c.settings_of-chosen.ensures c.state_of.ensures c.finish-finished.ensures c.in-Refused.is
-    c.answer_word-in-Refused.ensures
+    c.in_default.is c.settings_of-chosen.ensures c.state_of.ensures c.finish-finished.ensures c.in-Err.is
+    c.answer_word-in-Err.ensures
 
-pub returns-in-Done : goal.returns-in-Done
-returns-in-Done c =
+pub returns-in-Ok : goal.returns-in-Ok
+returns-in-Ok c =
     finish_done _ _ _ _ (c.first_bad-lent.ensures ∙ two_blocks _ _ c.judge_rooms.ensures c.judge_metrics-below.ensures)
-    c.in_default.is c.settings_of-chosen.ensures c.state_of.ensures c.finish-finished.ensures c.in-Done.is
+    c.in_default.is c.settings_of-chosen.ensures c.state_of.ensures c.finish-finished.ensures c.in-Ok.is
     c.put_state.ensures c.put_metrics.ensures

@@ -6,16 +6,16 @@ use Rattle.capi.proofs.part.part_judged.Goals as goal
 pub judge_rooms-requires : goal.judge_rooms-requires
 judge_rooms-requires c = c.settings_of-chosen.ensures
 
-pub returns-in-Bad : goal.returns-in-Bad
-returns-in-Bad c =
-    part_short _ _ _ _ _ _ (sym c.judge_rooms.ensures ∙ c.in-Bad.is) c.answer_word.ensures
+pub returns-in-Err : goal.returns-in-Err
+returns-in-Err c =
+    part_short _ _ _ _ _ _ (sym c.judge_rooms.ensures ∙ c.in-Err.is) c.answer_word.ensures
 
-pub returns-in-Refused : goal.returns-in-Refused
-returns-in-Refused c =
+pub returns-in-Err : goal.returns-in-Err
+returns-in-Err c =
     part_refused _ _ _ _ _ _ (sym c.judge_rooms.ensures ∙ c.in_default.is) c.settings_of-chosen.ensures
-    c.state_of.ensures c.part-parted.ensures c.in-Refused.is c.answer_word-in-Refused.ensures
+    c.state_of.ensures c.part-parted.ensures c.in-Err.is c.answer_word-in-Err.ensures
 
-pub returns-in-Used : goal.returns-in-Used
-returns-in-Used c =
+pub returns-in-Ok : goal.returns-in-Ok
+returns-in-Ok c =
     part_done _ _ _ _ _ _ (sym c.judge_rooms.ensures ∙ c.in_default.is) c.settings_of-chosen.ensures
-    c.state_of.ensures c.part-parted.ensures c.in-Used.is
+    c.state_of.ensures c.part-parted.ensures c.in-Ok.is

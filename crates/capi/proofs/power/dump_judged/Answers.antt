@@ -6,14 +6,14 @@ use Rattle.capi.proofs.power.dump_judged.Goals as goal
 pub judge_rooms-requires : goal.judge_rooms-requires
 judge_rooms-requires c = c.settings_of-chosen.ensures
 
-pub returns-in-Bad : goal.returns-in-Bad
-returns-in-Bad c =
-    dump_short _ _ _ _ _ _ (sym c.judge_rooms.ensures ∙ c.in-Bad.is) c.answer_word.ensures
+pub returns-in-Err : goal.returns-in-Err
+returns-in-Err c =
+    dump_short _ _ _ _ _ _ (sym c.judge_rooms.ensures ∙ c.in-Err.is) c.answer_word.ensures
 
-pub returns-in-Bad-dump : goal.returns-in-Bad-dump
-returns-in-Bad-dump c =
+pub returns-in-Err-dump : goal.returns-in-Err-dump
+returns-in-Err-dump c =
     dump_refused _ _ _ _ _ _ (sym c.judge_rooms.ensures ∙ c.in_default.is) c.settings_of-chosen.ensures
-    c.state_of-given.ensures c.dump.ensures c.in-Bad-dump.is c.answer_word-in-Bad-dump.ensures
+    c.state_of-given.ensures c.dump.ensures c.in-Err-dump.is c.answer_word-in-Err-dump.ensures
 
 pub returns : goal.returns
 returns c =

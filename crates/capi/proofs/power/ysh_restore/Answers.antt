@@ -6,16 +6,16 @@ use Rattle.capi.proofs.power.ysh_restore.Goals as goal
 pub judge_rooms-requires : goal.judge_rooms-requires
 judge_rooms-requires c = c.settings_of-chosen.ensures
 
-pub returns-in-Bad : goal.returns-in-Bad
-returns-in-Bad c =
-    restore_short _ _ _ _ (sym c.judge_rooms.ensures ∙ c.in-Bad.is) c.answer_word.ensures
+pub returns-in-Err : goal.returns-in-Err
+returns-in-Err c =
+    restore_short _ _ _ _ (sym c.judge_rooms.ensures ∙ c.in-Err.is) c.answer_word.ensures
 
-pub returns-in-Refused : goal.returns-in-Refused
-returns-in-Refused c =
+pub returns-in-Err : goal.returns-in-Err
+returns-in-Err c =
     restore_refused _ _ _ _ (sym c.judge_rooms.ensures ∙ c.in_default.is) c.settings_of-chosen.ensures
-    c.restore-restored.ensures c.in-Refused.is c.answer_word-in-Refused.ensures
+    c.restore-restored.ensures c.in-Err.is c.answer_word-in-Err.ensures
 
-pub returns-in-Done : goal.returns-in-Done
-returns-in-Done c =
+pub returns-in-Ok : goal.returns-in-Ok
+returns-in-Ok c =
     restore_done _ _ _ _ (sym c.judge_rooms.ensures ∙ c.in_default.is) c.settings_of-chosen.ensures
-    c.restore-restored.ensures c.in-Done.is c.put_state.ensures
+    c.restore-restored.ensures c.in-Ok.is c.put_state.ensures

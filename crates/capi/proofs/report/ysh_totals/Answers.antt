@@ -5,12 +5,12 @@ use Rattle.capi.specs.{Totals.totals_call}
 use Rattle.capi.proofs.{Totalling.totals_refuse, Totalling.totals_do}
 use Rattle.capi.proofs.report.ysh_totals.Goals as goal
 
-pub returns-in-Refused : goal.returns-in-Refused
+pub returns-in-Err : goal.returns-in-Err
 unfolding totals_call add_leaves
-returns-in-Refused c =
-    totals_refuse _ _ _ _ c.add-added.ensures.1 (sym c.add-added.ensures.0 ∙ c.in-Refused.is) c.answer_word.ensures
+returns-in-Err c =
+    totals_refuse _ _ _ _ c.add-added.ensures.1 (sym c.add-added.ensures.0 ∙ c.in-Err.is) c.answer_word.ensures
 
-pub returns-in-Done : goal.returns-in-Done
+pub returns-in-Ok : goal.returns-in-Ok
 unfolding totals_call add_leaves
-returns-in-Done c =
-    totals_do _ _ _ _ c.add-added.ensures.1 (sym c.add-added.ensures.0 ∙ c.in-Done.is)
+returns-in-Ok c =
+    totals_do _ _ _ _ c.add-added.ensures.1 (sym c.add-added.ensures.0 ∙ c.in-Ok.is)

@@ -4,10 +4,10 @@ use Rattle.capi.specs.{Fresh.fresh_call}
 use Rattle.capi.proofs.{Calling.call_bad, Calling.call_gives}
 use Rattle.capi.proofs.state.ysh_fresh.Goals as goal
 
-pub returns-in-Bad : goal.returns-in-Bad
+pub returns-in-Err : goal.returns-in-Err
 unfolding fresh_call
-returns-in-Bad c =
-    call_bad _ _ _ (sym c.judge_words.ensures ∙ c.in-Bad.is) c.answer_word.ensures
+returns-in-Err c =
+    call_bad _ _ _ (sym c.judge_words.ensures ∙ c.in-Err.is) c.answer_word.ensures
 
 pub returns : goal.returns
 unfolding fresh_call

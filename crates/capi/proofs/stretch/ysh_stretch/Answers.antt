@@ -4,12 +4,12 @@ use Rattle.capi.specs.{Stretch.stretch_call, Stretch.stretch_gives}
 use Rattle.capi.proofs.{Calling.call_refuses, Calling.call_does}
 use Rattle.capi.proofs.stretch.ysh_stretch.Goals as goal
 
-pub returns-in-Refused : goal.returns-in-Refused
+pub returns-in-Err : goal.returns-in-Err
 unfolding stretch_call stretch_gives
-returns-in-Refused c =
-    call_refuses _ _ (simp (sym c.stretch-found.ensures ∙ c.in-Refused.is)) c.answer_word.ensures
+returns-in-Err c =
+    call_refuses _ _ (simp (sym c.stretch-found.ensures ∙ c.in-Err.is)) c.answer_word.ensures
 
-pub returns-in-Best : goal.returns-in-Best
+pub returns-in-Ok : goal.returns-in-Ok
 unfolding stretch_call stretch_gives
-returns-in-Best c =
-    call_does _ _ (simp (sym c.stretch-found.ensures ∙ c.in-Best.is))
+returns-in-Ok c =
+    call_does _ _ (simp (sym c.stretch-found.ensures ∙ c.in-Ok.is))

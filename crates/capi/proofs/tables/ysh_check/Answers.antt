@@ -4,11 +4,11 @@ use Rattle.capi.specs.{Tables.check_call, Tables.check_gives}
 use Rattle.capi.proofs.{Calling.call_refuses, Calling.call_does}
 use Rattle.capi.proofs.tables.ysh_check.Goals as goal
 
-pub returns-in-Refused : goal.returns-in-Refused
+pub returns-in-Err : goal.returns-in-Err
 unfolding check_call check_gives
-returns-in-Refused c =
-    call_refuses _ _ (simp (sym c.check-checked.ensures.0 ∙ c.in-Refused.is)) c.answer_word.ensures
+returns-in-Err c =
+    call_refuses _ _ (simp (sym c.check-checked.ensures.0 ∙ c.in-Err.is)) c.answer_word.ensures
 
-pub returns-in-Accepted : goal.returns-in-Accepted
+pub returns-in-Ok : goal.returns-in-Ok
 unfolding check_call check_gives
-returns-in-Accepted c = call_does _ _ (simp (sym c.check-checked.ensures.0 ∙ c.in-Accepted.is))
+returns-in-Ok c = call_does _ _ (simp (sym c.check-checked.ensures.0 ∙ c.in-Ok.is))

@@ -4,11 +4,11 @@ use Rattle.capi.specs.{Tables.depth_call, Tables.depth_gives}
 use Rattle.capi.proofs.{Calling.call_refuses, Calling.call_does}
 use Rattle.capi.proofs.tables.ysh_depth.Goals as goal
 
-pub returns-in-Refuses : goal.returns-in-Refuses
+pub returns-in-Err : goal.returns-in-Err
 unfolding depth_call depth_gives
-returns-in-Refuses c =
-    call_refuses _ _ (simp (sym c.depth-depth.ensures ∙ c.in-Refuses.is)) c.answer_word.ensures
+returns-in-Err c =
+    call_refuses _ _ (simp (sym c.depth-depth.ensures ∙ c.in-Err.is)) c.answer_word.ensures
 
-pub returns-in-Needs : goal.returns-in-Needs
+pub returns-in-Ok : goal.returns-in-Ok
 unfolding depth_call depth_gives
-returns-in-Needs c = call_does _ _ (simp (sym c.depth-depth.ensures ∙ c.in-Needs.is))
+returns-in-Ok c = call_does _ _ (simp (sym c.depth-depth.ensures ∙ c.in-Ok.is))

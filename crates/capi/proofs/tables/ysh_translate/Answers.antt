@@ -6,31 +6,31 @@ use Rattle.capi.specs.{Tables.translate_call, Tables.translate_outcome, Tables.t
 use Rattle.capi.proofs.{Calling.call_refuses, Calling.call_does, Writing.writes_within}
 use Rattle.capi.proofs.tables.ysh_translate.Goals as goal
 
-pub returns-in-Refused : goal.returns-in-Refused
+pub returns-in-Err : goal.returns-in-Err
 unfolding translate_call translate_outcome translate_gives after_table
-returns-in-Refused c =
-    call_refuses _ _ (simp (le-leb _ _ c.if-tree-ge-TREES.true, sym c.check-checked.ensures.0 ∙ c.in-Refused.is))
+returns-in-Err c =
+    call_refuses _ _ (simp (le-leb _ _ c.if-tree-ge-TREES.true, sym c.check-checked.ensures.0 ∙ c.in-Err.is))
     c.answer_word.ensures
 
-pub returns-in-Accepted : goal.returns-in-Accepted
+pub returns-in-Ok : goal.returns-in-Ok
 unfolding translate_call translate_outcome translate_gives after_table
-returns-in-Accepted c =
-    call_does _ _ (simp (le-leb _ _ c.if-tree-ge-TREES.true, sym c.check-checked.ensures.0 ∙ c.in-Accepted.is))
+returns-in-Ok c =
+    call_does _ _ (simp (le-leb _ _ c.if-tree-ge-TREES.true, sym c.check-checked.ensures.0 ∙ c.in-Ok.is))
 
 pub overflow_mul-used : goal.overflow_mul-used
 overflow_mul-used c =
-    omega (arith, writes_within _ _ _ _ _ (sym c.translate-translated.ensures.value ∙ c.in-Writes.is) c.translate-translated.ensures.room_after)
+    omega (arith, writes_within _ _ _ _ _ (sym c.translate-translated.ensures.value ∙ c.in-Ok.is) c.translate-translated.ensures.room_after)
 
-pub returns-in-Refuses : goal.returns-in-Refuses
+pub returns-in-Err : goal.returns-in-Err
 unfolding translate_call translate_outcome translate_gives room_left room_after
-returns-in-Refuses c =
-    let told = sym (rw c.numbered_tree.ensures at c.translate-translated.ensures.value) ∙ c.in-Refuses.is in
+returns-in-Err c =
+    let told = sym (rw c.numbered_tree.ensures at c.translate-translated.ensures.value) ∙ c.in-Err.is in
     let room = rw c.numbered_tree.ensures at c.translate-translated.ensures.room_after in
-    call_refuses _ _ (simp (lt-leb _ _ c.if-tree-ge-TREES.false, told)) c.answer_word-in-Refuses.ensures ∙ simp (room, told)
+    call_refuses _ _ (simp (lt-leb _ _ c.if-tree-ge-TREES.false, told)) c.answer_word-in-Err.ensures ∙ simp (room, told)
 
-pub returns-in-Writes : goal.returns-in-Writes
+pub returns-in-Ok : goal.returns-in-Ok
 unfolding translate_call translate_outcome translate_gives
-returns-in-Writes c =
-    let told = sym (rw c.numbered_tree.ensures at c.translate-translated.ensures.value) ∙ c.in-Writes.is in
+returns-in-Ok c =
+    let told = sym (rw c.numbered_tree.ensures at c.translate-translated.ensures.value) ∙ c.in-Ok.is in
     let room = rw c.numbered_tree.ensures at c.translate-translated.ensures.room_after in
     call_does _ _ (simp (lt-leb _ _ c.if-tree-ge-TREES.false, told, room))

@@ -5,17 +5,17 @@ use Rattle.capi.specs.{Why.why_call, Why.why_gives}
 use Rattle.capi.proofs.{Calling.call_refuses, Calling.call_does}
 use Rattle.capi.proofs.why.ysh_why.Goals as goal
 
-pub returns-in-Refuses : goal.returns-in-Refuses
+pub returns-in-Err : goal.returns-in-Err
 unfolding why_call why_gives lines_after_answer
-returns-in-Refuses c =
+returns-in-Err c =
     let position = c.position_state-position.ensures in
-    let told = sym (rw position at c.explain-explained.ensures.value) ∙ c.in-Refuses.is in
-    call_refuses _ _ (simp told) c.answer_word.ensures ∙ simp (c.explain-explained.ensures.lines_after, c.in-Refuses.is)
+    let told = sym (rw position at c.explain-explained.ensures.value) ∙ c.in-Err.is in
+    call_refuses _ _ (simp told) c.answer_word.ensures ∙ simp (c.explain-explained.ensures.lines_after, c.in-Err.is)
 
-pub returns-in-Lines : goal.returns-in-Lines
+pub returns-in-Ok : goal.returns-in-Ok
 unfolding why_call why_gives
-returns-in-Lines c =
+returns-in-Ok c =
     let position = c.position_state-position.ensures in
-    let told = sym (rw position at c.explain-explained.ensures.value) ∙ c.in-Lines.is in
+    let told = sym (rw position at c.explain-explained.ensures.value) ∙ c.in-Ok.is in
     let lines = rw position at c.explain-explained.ensures.lines_after in
-    call_does _ _ (simp (lines, told, c.in-Lines.is))
+    call_does _ _ (simp (lines, told, c.in-Ok.is))

@@ -2,10 +2,10 @@
 use Rattle.chain.specs.{Missing.first_found}
 use Rattle.chain.proofs.missing.first_found.Goals as goal
 
-pub returns-in-Leaf : goal.returns-in-Leaf
+pub returns-in-Some : goal.returns-in-Some
 unfolding first_found
-returns-in-Leaf c = rw c.in-Leaf.is
+returns-in-Some c = rw c.in-Some.is
 
-pub returns-in-Nowhere : goal.returns-in-Nowhere
+pub returns-in-None : goal.returns-in-None
 unfolding first_found
-returns-in-Nowhere c = rw c.in-Nowhere.is
+returns-in-None c = rw c.in-None.is

@@ -7,10 +7,10 @@ pub returns-then-bar-back : goal.returns-then-bar-back
 unfolding leaf_gone gone_if
 returns-then-bar-back c = rw (lt-ltb _ _ c.if-bar-back.true)
 
-pub returns-in-Missing : goal.returns-in-Missing
+pub returns-in-None : goal.returns-in-None
 unfolding leaf_gone gone_if
-returns-in-Missing c = rw (le-ltb _ _ c.if-bar-back.false, ← c.eval_operand.ensures, c.in-Missing.is)
+returns-in-None c = rw (le-ltb _ _ c.if-bar-back.false, ← c.eval_operand.ensures, c.in-None.is)
 
-pub returns-in-Number : goal.returns-in-Number
+pub returns-in-Some : goal.returns-in-Some
 unfolding leaf_gone gone_if
-returns-in-Number c = rw (le-ltb _ _ c.if-bar-back.false, ← c.eval_operand.ensures, c.in-Number.is)
+returns-in-Some c = rw (le-ltb _ _ c.if-bar-back.false, ← c.eval_operand.ensures, c.in-Some.is)

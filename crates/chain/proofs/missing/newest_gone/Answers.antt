@@ -7,18 +7,18 @@ loop-at-init c =
     let all : c.args.back + c.args.more - c.args.back ≡ c.args.more = omega arith in
     rw all
 
-pub returns-in-Leaf : goal.returns-in-Leaf
-returns-in-Leaf c =
+pub returns-in-Some : goal.returns-in-Some
+returns-in-Some c =
     let l = c.loop-at in
     let some : 0 < c.args.back + c.args.more - l.at = omega arith in
-    sym (l.invariant ∙ newest_here _ _ _ _ _ _ _ _ _ some c.series_gone.ensures c.in-Leaf.is)
+    sym (l.invariant ∙ newest_here _ _ _ _ _ _ _ _ _ some c.series_gone.ensures c.in-Some.is)
 
 pub loop-at-preserved : goal.loop-at-preserved
 loop-at-preserved c =
     let l = c.loop-at in
     let some : 0 < c.args.back + c.args.more - l.at = omega arith in
     let rest : c.args.back + c.args.more - (l.at + 1) ≡ c.args.back + c.args.more - l.at - 1 = omega arith in
-    rw rest (l.invariant ∙ newest_further _ _ _ _ _ _ _ some c.series_gone.ensures c.in-Nowhere.is)
+    rw rest (l.invariant ∙ newest_further _ _ _ _ _ _ _ some c.series_gone.ensures c.in-None.is)
 
 pub returns : goal.returns
 returns c =

@@ -31,14 +31,14 @@ unfolding history_of gone_if
 returns-in-Price c =
     series_price _ _ _ _ _ c.if-bar-back.false (below c.row_count.ensures c.if-row_count-at.false) _ c.in-Price.is
 
-pub returns-in-Missing : goal.returns-in-Missing
+pub returns-in-None : goal.returns-in-None
 unfolding history_of gone_if
-returns-in-Missing c =
+returns-in-None c =
     series_slot _ _ _ _ _ c.if-bar-back.false (below c.row_count.ensures c.if-row_count-at.false) _ c.in-Slot.is _ _
-    c.slot_at.ensures c.in-Missing.is
+    c.slot_at.ensures c.in-None.is
 
-pub returns-in-Number : goal.returns-in-Number
+pub returns-in-Some : goal.returns-in-Some
 unfolding history_of gone_if
-returns-in-Number c =
+returns-in-Some c =
     series_slot _ _ _ _ _ c.if-bar-back.false (below c.row_count.ensures c.if-row_count-at.false) _ c.in-Slot.is _ _
-    c.slot_at.ensures c.in-Number.is
+    c.slot_at.ensures c.in-Some.is

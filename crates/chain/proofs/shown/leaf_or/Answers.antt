@@ -2,10 +2,10 @@
 use Rattle.chain.specs.{Lines.leaf_or, Lines.detail}
 use Rattle.chain.proofs.shown.leaf_or.Goals as goal
 
-pub returns-in-Leaf : goal.returns-in-Leaf
+pub returns-in-Some : goal.returns-in-Some
 unfolding leaf_or detail
-returns-in-Leaf c = rw c.in-Leaf.is
+returns-in-Some c = rw c.in-Some.is
 
-pub returns-in-Nowhere : goal.returns-in-Nowhere
+pub returns-in-None : goal.returns-in-None
 unfolding leaf_or detail
-returns-in-Nowhere c = rw c.in-Nowhere.is
+returns-in-None c = rw c.in-None.is

@@ -2,10 +2,10 @@
 use Rattle.chain.specs.{Lines.value_word}
 use Rattle.chain.proofs.shown.operand_word.Goals as goal
 
-pub returns-in-Missing : goal.returns-in-Missing
+pub returns-in-None : goal.returns-in-None
 unfolding value_word
-returns-in-Missing c = rw (← c.eval_operand.ensures, c.in-Missing.is)
+returns-in-None c = rw (← c.eval_operand.ensures, c.in-None.is)
 
-pub returns-in-Number : goal.returns-in-Number
+pub returns-in-Some : goal.returns-in-Some
 unfolding value_word
-returns-in-Number c = rw (← c.eval_operand.ensures, c.in-Number.is) c.word_of.ensures
+returns-in-Some c = rw (← c.eval_operand.ensures, c.in-Some.is) c.word_of.ensures

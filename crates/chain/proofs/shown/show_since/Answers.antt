@@ -3,14 +3,14 @@ use Rattle.words.specs.Prelude.{refl}
 use Rattle.chain.specs.{Chain.shown_since, Lines.detail_of, Lines.detail}
 use Rattle.chain.proofs.shown.show_since.Goals as goal
 
-pub returns-in-Never : goal.returns-in-Never
+pub returns-in-None : goal.returns-in-None
 unfolding shown_since detail_of
-returns-in-Never c = rw (← c.in_position.ensures, c.if-in_position.true, c.in-Never.is) c.bare.ensures
+returns-in-None c = rw (← c.in_position.ensures, c.if-in_position.true, c.in-None.is) c.bare.ensures
 
-pub returns-in-Bar : goal.returns-in-Bar
+pub returns-in-Some : goal.returns-in-Some
 unfolding shown_since detail_of
-returns-in-Bar c =
-    rw (← c.in_position.ensures, c.if-in_position.true, c.in-Bar.is, ← c.bars_since.ensures) (unfold detail in refl)
+returns-in-Some c =
+    rw (← c.in_position.ensures, c.if-in_position.true, c.in-Some.is, ← c.bars_since.ensures) (unfold detail in refl)
 
 pub returns-else-in_position : goal.returns-else-in_position
 unfolding shown_since detail_of

@@ -9,11 +9,11 @@ put_line-requires t c =
 
 pub overflow_sub-left : goal.overflow_sub-left
 overflow_sub-left t c =
-    omega (arith, goes_down _ _ _ _ _ _ _ _ (sym c.next_node.ensures ∙ c.in-Node.is))
+    omega (arith, goes_down _ _ _ _ _ _ _ _ (sym c.next_node.ensures ∙ c.in-Some.is))
 
 pub walk-requires : goal.walk-requires
 walk-requires t c =
-    let down = goes_down _ _ _ _ _ _ _ _ (sym c.next_node.ensures ∙ c.in-Node.is) in
+    let down = goes_down _ _ _ _ _ _ _ _ (sym c.next_node.ensures ∙ c.in-Some.is) in
     (omega (arith, down), omega (arith, down))
 
 pub returns-in-Stop : goal.returns-in-Stop
@@ -22,9 +22,9 @@ returns-in-Stop t c =
     c.next_node.ensures c.in-Stop.is in
     record { value = both.0; lines_after = both.1 }
 
-pub returns-in-Node : goal.returns-in-Node
-returns-in-Node t c =
+pub returns-in-Some : goal.returns-in-Some
+returns-in-Some t c =
     let both = walked_on _ _ _ _ _ _ _ _ _ _ _ c.put_line.ensures c.next_node.ensures _ _ _
-    c.in-Node.is
+    c.in-Some.is
     c.walk.ensures.value c.walk.ensures.lines_after in
     record { value = both.0; lines_after = both.1 }

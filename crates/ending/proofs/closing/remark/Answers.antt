@@ -10,10 +10,10 @@ returns-then-n-eq0 c = no_point _ _ _ _ c.if-n-eq0.true
 pub returns-then-equity-n : goal.returns-then-equity-n
 returns-then-equity-n c = late_point _ _ _ _ c.if-equity-n.true
 
-pub returns-in-NoExit : goal.returns-in-NoExit
+pub returns-in-None : goal.returns-in-None
 unfolding remarked
-returns-in-NoExit c = simp c.in-NoExit.is
+returns-in-None c = simp c.in-None.is
 
 pub returns-else-equity-n : goal.returns-else-equity-n
 returns-else-equity-n c =
-    last_point _ _ _ _ _ _ c.in-Exited.is c.if-n-eq0.false (c.word_of.ensures ∙ rw c.equity.ensures)
+    last_point _ _ _ _ _ _ c.in-Some.is c.if-n-eq0.false (c.word_of.ensures ∙ rw c.equity.ensures)

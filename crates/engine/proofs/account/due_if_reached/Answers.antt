@@ -3,10 +3,10 @@ use Rattle.words.specs.Prelude.{sym, ◌∙◌}
 use Rattle.engine.specs.{Account.due_if_reached}
 use Rattle.engine.proofs.account.due_if_reached.Goals as goal
 
-pub returns-in-Absent : goal.returns-in-Absent
+pub returns-in-None : goal.returns-in-None
 unfolding due_if_reached
-returns-in-Absent c = simp (sym c.level_fill-price.ensures ∙ c.in-Absent.is)
+returns-in-None c = simp (sym c.level_fill-price.ensures ∙ c.in-None.is)
 
-pub returns-in-Of : goal.returns-in-Of
+pub returns-in-Some : goal.returns-in-Some
 unfolding due_if_reached
-returns-in-Of c = simp (sym c.level_fill-price.ensures ∙ c.in-Of.is)
+returns-in-Some c = simp (sym c.level_fill-price.ensures ∙ c.in-Some.is)

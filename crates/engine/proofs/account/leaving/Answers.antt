@@ -2,12 +2,12 @@
 use Rattle.engine.specs.{Account.leaving}
 use Rattle.engine.proofs.account.leaving.Goals as goal
 
-pub returns-in-NoExit : goal.returns-in-NoExit
+pub returns-in-None : goal.returns-in-None
 unfolding leaving
-returns-in-NoExit c =
-    simp c.in-NoExit.is
+returns-in-None c =
+    simp c.in-None.is
 
-pub returns-in-Exited : goal.returns-in-Exited
+pub returns-in-Some : goal.returns-in-Some
 unfolding leaving
-returns-in-Exited c =
-    simp c.in-Exited.is
+returns-in-Some c =
+    simp c.in-Some.is

@@ -11,20 +11,20 @@ advance-requires c =
     let a = c.args in
     let ready = next_ready a.s a.t a.bar.now (rooms (turned (width a.s.slots) a.start a.rows.now) a.equity.now a.trades.now)
     (lists_of a.trees) c.requires.1 c.requires.3
-    c.judge_next-verdict.ensures c.in-Fine.is in
+    c.judge_next-verdict.ensures c.in-Ok.is in
     (c.requires.0, record { slots = ready.0; bars = ready.1; long = omega (arith, c.requires.1); at = c.requires.2; lists = c.requires.3.lists })
 
-pub returns-in-Bad : goal.returns-in-Bad
-returns-in-Bad c =
+pub returns-in-Err : goal.returns-in-Err
+returns-in-Err c =
     let a = c.args in
     let refused = next_refused a.s a.t a.bar.now (rooms (turned (width a.s.slots) a.start a.rows.now) a.equity.now a.trades.now)
     (lists_of a.trees) c.requires.1 c.requires.3
-    c.judge_next-verdict.ensures _ c.in-Bad.is in
+    c.judge_next-verdict.ensures _ c.in-Err.is in
     record { answer = refused; at = c.requires.2 }
 
-pub returns-in-Fine : goal.returns-in-Fine
-returns-in-Fine c =
+pub returns-in-Ok : goal.returns-in-Ok
+returns-in-Ok c =
     let a = c.args in
     next_went a.s a.t a.bar.now (rooms (turned (width a.s.slots) a.start a.rows.now) a.equity.now a.trades.now)
     (lists_of a.trees) c.requires.1 c.requires.3
-    c.judge_next-verdict.ensures c.in-Fine.is c.advance.ensures
+    c.judge_next-verdict.ensures c.in-Ok.is c.advance.ensures

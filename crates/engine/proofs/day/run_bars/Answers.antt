@@ -12,14 +12,14 @@ returns-then-no_bars c =
     day_none a.span _ a.t a.bars.now (rooms a.rows.now a.equity.now a.trades.now)
     (lists_of a.trees) (sym c.no_bars.ensures ∙ c.if-no_bars.true)
 
-pub returns-in-Bad : goal.returns-in-Bad
-returns-in-Bad c =
+pub returns-in-Err : goal.returns-in-Err
+returns-in-Err c =
     let s = c.settings_of-s.result in
     let a = c.args in
     let some = sym c.no_bars.ensures ∙ c.if-no_bars.false in
     rw (← c.settings_of-s.ensures) (day_stops a.span s a.t a.bars.now (rooms a.rows.now a.equity.now a.trades.now)
     (lists_of a.trees) some
-    _ (sym c.judge_day.ensures ∙ c.in-Bad.is))
+    _ (sym c.judge_day.ensures ∙ c.in-Err.is))
 
 pub unlisted-requires : goal.unlisted-requires
 unlisted-requires c =
@@ -30,8 +30,8 @@ unlisted-requires c =
     (sym c.judge_day.ensures ∙ c.in_default.is) in
     whole_one s.slots a.bars.now a.span some once.1
 
-pub returns-in-Bad-judge_lists : goal.returns-in-Bad-judge_lists
-returns-in-Bad-judge_lists c =
+pub returns-in-Err-judge_lists : goal.returns-in-Err-judge_lists
+returns-in-Err-judge_lists c =
     let s = c.settings_of-s.result in
     let a = c.args in
     let some = sym c.no_bars.ensures ∙ c.if-no_bars.false in
@@ -41,7 +41,7 @@ returns-in-Bad-judge_lists c =
     (day_unlisted a.span s a.t a.bars.now (rooms a.rows.now a.equity.now a.trades.now)
     (lists_of a.trees) some
     _ once.0 once.1
-    (sym c.judge_lists.ensures ∙ c.in-Bad-judge_lists.is))
+    (sym c.judge_lists.ensures ∙ c.in-Err-judge_lists.is))
 
 pub take_bars-requires : goal.take_bars-requires
 take_bars-requires c =

@@ -39,28 +39,28 @@ next_bar-went-requires c =
     (c.requires.0, long, c.loop-done.invariant.at, c.loop-done.invariant.underway)
 
 -- the rooms are as long as they were, also after the bar that was refused
-pub shape_of-rows-in-Refused : goal.shape_of-rows-in-Refused
-shape_of-rows-in-Refused c =
+pub shape_of-rows-in-Err : goal.shape_of-rows-in-Err
+shape_of-rows-in-Err c =
     c.turn.auto.room ∙ c.next_bar-went.auto.rows ∙ c.loop-done.invariant.lengths.rows
 
-pub shape_of-equity-in-Refused : goal.shape_of-equity-in-Refused
-shape_of-equity-in-Refused c =
+pub shape_of-equity-in-Err : goal.shape_of-equity-in-Err
+shape_of-equity-in-Err c =
     c.next_bar-went.auto.equity ∙ c.loop-done.invariant.lengths.equity
 
-pub shape_of-trades-in-Refused : goal.shape_of-trades-in-Refused
-shape_of-trades-in-Refused c =
+pub shape_of-trades-in-Err : goal.shape_of-trades-in-Err
+shape_of-trades-in-Err c =
     c.next_bar-went.auto.trades ∙ c.loop-done.invariant.lengths.trades
 
 -- a bar is refused
-pub returns-in-Refused : goal.returns-in-Refused
-returns-in-Refused c =
+pub returns-in-Err : goal.returns-in-Err
+returns-in-Err c =
     rw c.turn.ensures
     (stops _ _ _ _ _ _ _ _ _ _ _ _ c.loop-done.invariant (omega arith) c.next_bar-went.ensures
-    c.in-Refused.is)
+    c.in-Err.is)
 
 pub loop-done-preserved : goal.loop-done-preserved
 loop-done-preserved c =
-    one_more _ _ _ _ _ _ _ _ _ _ _ _ c.loop-done.invariant (omega arith) c.next_bar-went.ensures c.in-Done.is
+    one_more _ _ _ _ _ _ _ _ _ _ _ _ c.loop-done.invariant (omega arith) c.next_bar-went.ensures c.in-Ok.is
     c.next_bar-went.auto.rows c.next_bar-went.auto.equity c.next_bar-went.auto.trades
 
 -- all are done

@@ -10,10 +10,10 @@ pub slice_bounds-judge_next-end : goal.slice_bounds-judge_next-end
 slice_bounds-judge_next-end c =
     sym (length-take-le (10 + c.args.s.slots) c.args.bars.now c.requires)
 
-pub returns-in-Bad : goal.returns-in-Bad
+pub returns-in-Err : goal.returns-in-Err
 unfolding unlisted_by
-returns-in-Bad c = rw (← c.judge_next-verdict.ensures, c.in-Bad.is)
+returns-in-Err c = rw (← c.judge_next-verdict.ensures, c.in-Err.is)
 
-pub returns-in-Fine : goal.returns-in-Fine
+pub returns-in-Ok : goal.returns-in-Ok
 unfolding unlisted_by
-returns-in-Fine c = rw (← c.judge_next-verdict.ensures, c.in-Fine.is)
+returns-in-Ok c = rw (← c.judge_next-verdict.ensures, c.in-Ok.is)

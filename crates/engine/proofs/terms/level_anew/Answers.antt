@@ -1,8 +1,8 @@
 -- A case each.
 use Rattle.engine.proofs.terms.level_anew.Goals as goal
 
-pub returns-in-Absent : goal.returns-in-Absent
-returns-in-Absent c = simp c.in-Absent.is
+pub returns-in-None : goal.returns-in-None
+returns-in-None c = simp c.in-None.is
 
-pub returns-in-Of : goal.returns-in-Of
-returns-in-Of c = simp c.in-Of.is
+pub returns-in-Some : goal.returns-in-Some
+returns-in-Some c = simp c.in-Some.is

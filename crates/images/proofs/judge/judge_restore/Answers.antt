@@ -8,30 +8,30 @@ pub judge_room-requires : goal.judge_room-requires
 unfolding restore_judged restore_lines
 judge_room-requires c = search rules
 
-pub returns-in-Bad : goal.returns-in-Bad
+pub returns-in-Err : goal.returns-in-Err
 unfolding restore_judged restore_lines
-returns-in-Bad c = stop_block top _ _ c.judge_room.ensures refl c.in-Bad.is
+returns-in-Err c = stop_block top _ _ c.judge_room.ensures refl c.in-Err.is
 
 pub judge_settings-requires : goal.judge_settings-requires
 unfolding restore_judged restore_lines
 judge_settings-requires c = search rules
 
-pub returns-in-Bad-judge_settings : goal.returns-in-Bad-judge_settings
+pub returns-in-Err-judge_settings : goal.returns-in-Err-judge_settings
 unfolding restore_judged restore_lines
-returns-in-Bad-judge_settings c =
+returns-in-Err-judge_settings c =
     let past1 : (Below (restore_lines c.args.s c.args.image.now c.args.rows.now)) = past_block top _ _ c.judge_room.ensures refl c.in_default.is in
-    stop_block past1 _ _ c.judge_settings.ensures refl c.in-Bad-judge_settings.is
+    stop_block past1 _ _ c.judge_settings.ensures refl c.in-Err-judge_settings.is
 
 pub judge_image-requires : goal.judge_image-requires
 unfolding restore_judged restore_lines
 judge_image-requires c = search rules
 
-pub returns-in-Bad-judge_image : goal.returns-in-Bad-judge_image
+pub returns-in-Err-judge_image : goal.returns-in-Err-judge_image
 unfolding restore_judged restore_lines
-returns-in-Bad-judge_image c =
+returns-in-Err-judge_image c =
     let past2 : (Below (restore_lines c.args.s c.args.image.now c.args.rows.now)) = let past1 : (Below (restore_lines c.args.s c.args.image.now c.args.rows.now)) = past_block top _ _ c.judge_room.ensures refl c.in_default.is in
     past_block past1 _ _ c.judge_settings.ensures refl c.in_default-judge_settings.is in
-    stop_block past2 _ _ c.judge_image.ensures refl c.in-Bad-judge_image.is
+    stop_block past2 _ _ c.judge_image.ensures refl c.in-Err-judge_image.is
 
 pub judge_same-requires : goal.judge_same-requires
 unfolding restore_judged restore_lines

@@ -10,33 +10,33 @@ unfolding Bytes
 explain_rows-requires c =
     let a = c.args in
     let f = seen a.t.now a.rows.now a.positions.now _ _ _ c.slots-slots.ensures _ c.judge_over-verdict.ensures
-    c.in-Fine.is in (
+    c.in-Ok.is in (
       known a.t.now (λ j. omega (arith, c.type_inv.t j)) _ _
-          (sym c.check-checked.ensures.0 ∙ c.in-Accepted.is) _ c.check-checked.ensures.1,
+          (sym c.check-checked.ensures.0 ∙ c.in-Ok.is) _ c.check-checked.ensures.1,
       f.held,
       f.places,
     )
 
-pub returns-in-Refused : goal.returns-in-Refused
+pub returns-in-Err : goal.returns-in-Err
 unfolding unless_refused
-returns-in-Refused c = (table_refused _ _ _ _ _ _ _ c.check-checked.ensures.0 c.in-Refused.is, refl, refl)
+returns-in-Err c = (table_refused _ _ _ _ _ _ _ c.check-checked.ensures.0 c.in-Err.is, refl, refl)
 
-pub returns-in-Bad : goal.returns-in-Bad
+pub returns-in-Err : goal.returns-in-Err
 unfolding unless_refused
-returns-in-Bad c = (
-  sym c.in-Bad.is
+returns-in-Err c = (
+  sym c.in-Err.is
       ∙ lines_judged _ _ _ _ _ _ c.slots-slots.ensures _ c.judge_over-verdict.ensures _ _ _ c.check-checked.ensures.0
-      c.in-Accepted.is,
+      c.in-Ok.is,
   refl,
   refl,
 )
 
-pub returns-in-Fine : goal.returns-in-Fine
+pub returns-in-Ok : goal.returns-in-Ok
 unfolding unless_refused
-returns-in-Fine c = (
-  sym c.in-Fine.is
+returns-in-Ok c = (
+  sym c.in-Ok.is
       ∙ lines_judged _ _ _ _ _ _ c.slots-slots.ensures _ c.judge_over-verdict.ensures _ _ _ c.check-checked.ensures.0
-      c.in-Accepted.is,
+      c.in-Ok.is,
   c.explain_rows.ensures.lines_after,
   c.explain_rows.ensures.counts_after,
 )

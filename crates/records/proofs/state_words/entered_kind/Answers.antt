@@ -2,10 +2,10 @@
 use Rattle.records.specs.{StateWords.entered_kind}
 use Rattle.records.proofs.state_words.entered_kind.Goals as goal
 
-pub returns-in-Never : goal.returns-in-Never
+pub returns-in-None : goal.returns-in-None
 unfolding entered_kind
-returns-in-Never c = cc
+returns-in-None c = cc
 
-pub returns-in-Bar : goal.returns-in-Bar
+pub returns-in-Some : goal.returns-in-Some
 unfolding entered_kind
-returns-in-Bar c = simp c.in-Bar.is
+returns-in-Some c = simp c.in-Some.is

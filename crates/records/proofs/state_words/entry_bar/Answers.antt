@@ -2,10 +2,10 @@
 use Rattle.records.specs.{StateWords.entry_bar}
 use Rattle.records.proofs.state_words.entry_bar.Goals as goal
 
-pub returns-in-Never : goal.returns-in-Never
+pub returns-in-None : goal.returns-in-None
 unfolding entry_bar
-returns-in-Never c = cc
+returns-in-None c = cc
 
-pub returns-in-Bar : goal.returns-in-Bar
+pub returns-in-Some : goal.returns-in-Some
 unfolding entry_bar
-returns-in-Bar c = simp c.in-Bar.is
+returns-in-Some c = simp c.in-Some.is

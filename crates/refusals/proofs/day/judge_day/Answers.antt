@@ -9,33 +9,33 @@ pub judge_room-requires : goal.judge_room-requires
 unfolding day_lines
 judge_room-requires c = search rules
 
-pub returns-in-Bad : goal.returns-in-Bad
+pub returns-in-Err : goal.returns-in-Err
 unfolding day_lines
-returns-in-Bad c = stop_block top _ _ c.judge_room.ensures refl c.in-Bad.is
+returns-in-Err c = stop_block top _ _ c.judge_room.ensures refl c.in-Err.is
 
 pub judge_settings-requires : goal.judge_settings-requires
 unfolding day_lines
 judge_settings-requires c = search rules
 
-pub returns-in-Bad-judge_settings : goal.returns-in-Bad-judge_settings
+pub returns-in-Err-judge_settings : goal.returns-in-Err-judge_settings
 unfolding day_lines
-returns-in-Bad-judge_settings c =
+returns-in-Err-judge_settings c =
     let past1 : (let a = c.args in
     Below (day_lines a.span a.s a.t a.bars.now (rooms a.rows.now a.equity.now a.trades.now))) = past_block top _ _ c.judge_room.ensures refl c.in_default.is in
-    stop_block past1 _ _ c.judge_settings.ensures refl c.in-Bad-judge_settings.is
+    stop_block past1 _ _ c.judge_settings.ensures refl c.in-Err-judge_settings.is
 
 pub judge_state-requires : goal.judge_state-requires
 unfolding day_lines
 judge_state-requires c = search rules
 
-pub returns-in-Bad-judge_state : goal.returns-in-Bad-judge_state
+pub returns-in-Err-judge_state : goal.returns-in-Err-judge_state
 unfolding day_lines
-returns-in-Bad-judge_state c =
+returns-in-Err-judge_state c =
     let past2 : (let a = c.args in
     Below (day_lines a.span a.s a.t a.bars.now (rooms a.rows.now a.equity.now a.trades.now))) = let past1 : (let a = c.args in
     Below (day_lines a.span a.s a.t a.bars.now (rooms a.rows.now a.equity.now a.trades.now))) = past_block top _ _ c.judge_room.ensures refl c.in_default.is in
     past_block past1 _ _ c.judge_settings.ensures refl c.in_default-judge_settings.is in
-    stop_block past2 _ _ c.judge_state.ensures refl c.in-Bad-judge_state.is
+    stop_block past2 _ _ c.judge_state.ensures refl c.in-Err-judge_state.is
 
 pub are_for-requires : goal.are_for-requires
 are_for-requires c = (settings_fine c.args.s (sym c.judge_settings.ensures ∙ c.in_default-judge_settings.is)).slots

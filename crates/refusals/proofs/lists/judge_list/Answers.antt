@@ -15,12 +15,12 @@ returns-then-is_empty c =
 pub overflow_add-place : goal.overflow_add-place
 overflow_add-place c =
     let a = c.args in
-    omega (arith, bad_below a.slots a.depth a.steps.now _ (sym c.check-form.ensures ∙ c.in-Bad.is))
+    omega (arith, bad_below a.slots a.depth a.steps.now _ (sym c.check-form.ensures ∙ c.in-Err.is))
 
-pub returns-in-Well : goal.returns-in-Well
+pub returns-in-Ok : goal.returns-in-Ok
 unfolding judged
-returns-in-Well c = simp (sym c.check-form.ensures ∙ c.in-Well.is)
+returns-in-Ok c = simp (sym c.check-form.ensures ∙ c.in-Ok.is)
 
-pub returns-in-Bad : goal.returns-in-Bad
+pub returns-in-Err : goal.returns-in-Err
 unfolding judged
-returns-in-Bad c = simp (sym c.check-form.ensures ∙ c.in-Bad.is)
+returns-in-Err c = simp (sym c.check-form.ensures ∙ c.in-Err.is)

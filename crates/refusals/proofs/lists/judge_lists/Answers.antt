@@ -8,33 +8,33 @@ pub judge_list-requires : goal.judge_list-requires
 unfolding list_lines
 judge_list-requires c = search rules
 
-pub returns-in-Bad : goal.returns-in-Bad
+pub returns-in-Err : goal.returns-in-Err
 unfolding list_lines
-returns-in-Bad c = stop_block top _ _ c.judge_list.ensures refl c.in-Bad.is
+returns-in-Err c = stop_block top _ _ c.judge_list.ensures refl c.in-Err.is
 
 pub judge_list-requires-2 : goal.judge_list-requires-2
 unfolding list_lines
 judge_list-requires-2 c = search rules
 
-pub returns-in-Bad-judge_list : goal.returns-in-Bad-judge_list
+pub returns-in-Err-judge_list : goal.returns-in-Err-judge_list
 unfolding list_lines
-returns-in-Bad-judge_list c =
+returns-in-Err-judge_list c =
     let past1 : (let a = c.args in
     Below (list_lines a.slots a.depth (lists_of a.trees))) = past_block top _ _ c.judge_list.ensures refl c.in_default.is in
-    stop_block past1 _ _ c.judge_list-2.ensures refl c.in-Bad-judge_list.is
+    stop_block past1 _ _ c.judge_list-2.ensures refl c.in-Err-judge_list.is
 
 pub judge_list-requires-3 : goal.judge_list-requires-3
 unfolding list_lines
 judge_list-requires-3 c = search rules
 
-pub returns-in-Bad-judge_list-2 : goal.returns-in-Bad-judge_list-2
+pub returns-in-Err-judge_list-2 : goal.returns-in-Err-judge_list-2
 unfolding list_lines
-returns-in-Bad-judge_list-2 c =
+returns-in-Err-judge_list-2 c =
     let past2 : (let a = c.args in
     Below (list_lines a.slots a.depth (lists_of a.trees))) = let past1 : (let a = c.args in
     Below (list_lines a.slots a.depth (lists_of a.trees))) = past_block top _ _ c.judge_list.ensures refl c.in_default.is in
     past_block past1 _ _ c.judge_list-2.ensures refl c.in_default-judge_list.is in
-    stop_block past2 _ _ c.judge_list-3.ensures refl c.in-Bad-judge_list-2.is
+    stop_block past2 _ _ c.judge_list-3.ensures refl c.in-Err-judge_list-2.is
 
 pub judge_list-requires-4 : goal.judge_list-requires-4
 unfolding list_lines

@@ -33,13 +33,13 @@ pub judge_terms-requires : goal.judge_terms-requires
 unfolding setting_lines
 judge_terms-requires c = search rules
 
-pub returns-in-Bad : goal.returns-in-Bad
+pub returns-in-Err : goal.returns-in-Err
 unfolding setting_lines
-returns-in-Bad c =
+returns-in-Err c =
     let past3 : (Below (setting_lines c.args.s)) = let past2 : (Below (setting_lines c.args.s)) = let past1 : (Below (setting_lines c.args.s)) = past top refl (le-leb _ _ c.if-s-gt-MOST_SLOTS.false) in
     past past1 refl (so c.depth_fine.ensures c.if-not-depth_fine.false-raw) in
     past past2 refl (so c.is_finite.ensures c.if-not-is_finite.false-raw) in
-    stop_block past3 _ _ c.judge_terms.ensures refl c.in-Bad.is
+    stop_block past3 _ _ c.judge_terms.ensures refl c.in-Err.is
 
 pub judge_entries-requires : goal.judge_entries-requires
 unfolding setting_lines

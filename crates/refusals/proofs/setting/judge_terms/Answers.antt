@@ -8,9 +8,9 @@ pub judge_sizing-requires : goal.judge_sizing-requires
 unfolding term_lines
 judge_sizing-requires c = search rules
 
-pub returns-in-Bad : goal.returns-in-Bad
+pub returns-in-Err : goal.returns-in-Err
 unfolding term_lines
-returns-in-Bad c = stop_block top _ _ c.judge_sizing.ensures refl c.in-Bad.is
+returns-in-Err c = stop_block top _ _ c.judge_sizing.ensures refl c.in-Err.is
 
 pub is_finite-requires : goal.is_finite-requires
 unfolding term_lines
@@ -26,24 +26,24 @@ pub judge_slippage-requires : goal.judge_slippage-requires
 unfolding term_lines
 judge_slippage-requires c = search rules
 
-pub returns-in-Bad-judge_slippage : goal.returns-in-Bad-judge_slippage
+pub returns-in-Err-judge_slippage : goal.returns-in-Err-judge_slippage
 unfolding term_lines
-returns-in-Bad-judge_slippage c =
+returns-in-Err-judge_slippage c =
     let past2 : (Below (term_lines c.args.t)) = let past1 : (Below (term_lines c.args.t)) = past_block top _ _ c.judge_sizing.ensures refl c.in_default.is in
     past past1 refl (so c.is_finite.ensures c.if-not-is_finite.false-raw) in
-    stop_block past2 _ _ c.judge_slippage.ensures refl c.in-Bad-judge_slippage.is
+    stop_block past2 _ _ c.judge_slippage.ensures refl c.in-Err-judge_slippage.is
 
 pub judge_risk-requires : goal.judge_risk-requires
 unfolding term_lines
 judge_risk-requires c = search rules
 
-pub returns-in-Bad-judge_risk : goal.returns-in-Bad-judge_risk
+pub returns-in-Err-judge_risk : goal.returns-in-Err-judge_risk
 unfolding term_lines
-returns-in-Bad-judge_risk c =
+returns-in-Err-judge_risk c =
     let past3 : (Below (term_lines c.args.t)) = let past2 : (Below (term_lines c.args.t)) = let past1 : (Below (term_lines c.args.t)) = past_block top _ _ c.judge_sizing.ensures refl c.in_default.is in
     past past1 refl (so c.is_finite.ensures c.if-not-is_finite.false-raw) in
     past_block past2 _ _ c.judge_slippage.ensures refl c.in_default-judge_slippage.is in
-    stop_block past3 _ _ c.judge_risk.ensures refl c.in-Bad-judge_risk.is
+    stop_block past3 _ _ c.judge_risk.ensures refl c.in-Err-judge_risk.is
 
 pub is_finite-requires-2 : goal.is_finite-requires-2
 unfolding term_lines

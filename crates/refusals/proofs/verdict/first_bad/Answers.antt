@@ -1,5 +1,5 @@
 -- By the first of the two.
 use Rattle.refusals.proofs.verdict.first_bad.Goals as goal
 
-pub returns-in-Bad : goal.returns-in-Bad
-returns-in-Bad c = cc
+pub returns-in-Err : goal.returns-in-Err
+returns-in-Err c = cc

@@ -7,10 +7,10 @@ pub returns-then-s-gt-MOST_COUNT : goal.returns-then-s-gt-MOST_COUNT
 unfolding state_right
 returns-then-s-gt-MOST_COUNT c = rw (lt-leb _ _ c.if-s-gt-MOST_COUNT.true)
 
-pub returns-in-Never : goal.returns-in-Never
+pub returns-in-None : goal.returns-in-None
 unfolding state_right
-returns-in-Never c = rw (le-leb _ _ c.if-s-gt-MOST_COUNT.false, c.in-Never.is)
+returns-in-None c = rw (le-leb _ _ c.if-s-gt-MOST_COUNT.false, c.in-None.is)
 
-pub returns-in-Bar : goal.returns-in-Bar
+pub returns-in-Some : goal.returns-in-Some
 unfolding state_right
-returns-in-Bar c = rw (le-leb _ _ c.if-s-gt-MOST_COUNT.false, c.in-Bar.is)
+returns-in-Some c = rw (le-leb _ _ c.if-s-gt-MOST_COUNT.false, c.in-Some.is)

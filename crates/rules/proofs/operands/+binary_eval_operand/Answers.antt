@@ -5,21 +5,21 @@ use Rattle.rules.specs.{Laws.Meaning.early_value, Laws.Meaning.prev-value, Laws.
 use Rattle.rules.proofs.{Grown.no_operand, Grown.grown_operand, Grown.below, Grown.above}
 use Rattle.rules.proofs.operands.+binary_eval_operand.Goals as goal
 
-pub binary-returns-in-Missing : goal.binary-returns-in-Missing
+pub binary-returns-in-None : goal.binary-returns-in-None
 unfolding combined grow_operand
-binary-returns-in-Missing t c =
-    rw (← c.eval_operand.ensures, c.in-Missing.is)
+binary-returns-in-None t c =
+    rw (← c.eval_operand.ensures, c.in-None.is)
 
-pub binary-returns-in-Missing-eval_operand : goal.binary-returns-in-Missing-eval_operand
+pub binary-returns-in-None-eval_operand : goal.binary-returns-in-None-eval_operand
 unfolding combined grow_operand
-binary-returns-in-Missing-eval_operand t c =
-    rw (← c.eval_operand.ensures, c.in-Number.is, ← c.eval_operand-in-Number.ensures, c.in-Missing-eval_operand.is)
+binary-returns-in-None-eval_operand t c =
+    rw (← c.eval_operand.ensures, c.in-Some.is, ← c.eval_operand-in-Some.ensures, c.in-None-eval_operand.is)
 
-pub binary-returns-in-Number-eval_operand : goal.binary-returns-in-Number-eval_operand
+pub binary-returns-in-Some-eval_operand : goal.binary-returns-in-Some-eval_operand
 unfolding combined grow_operand
-binary-returns-in-Number-eval_operand t c =
+binary-returns-in-Some-eval_operand t c =
     rw
-    (← c.eval_operand.ensures, c.in-Number.is, ← c.eval_operand-in-Number.ensures, c.in-Number-eval_operand.is, c.combine.ensures)
+    (← c.eval_operand.ensures, c.in-Some.is, ← c.eval_operand-in-Some.ensures, c.in-Some-eval_operand.is, c.combine.ensures)
 
 pub eval_operand-returns-then-row_count-bar : goal.eval_operand-returns-then-row_count-bar
 unfolding combined grow_operand

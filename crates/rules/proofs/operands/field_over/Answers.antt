@@ -1,7 +1,8 @@
+use Rattle.std.specs.Prelude.{Some}
 use Rattle.words.specs.Prelude.{ℕ, ◌+◌, ◌-◌, ◌<◌, ◌≡◌, ap, ◌∙◌, arith, le_refl, Float}
 use Rattle.rows.specs.{History.history_of}
 use Rattle.table.specs.{declared.series.Series.TheVariants.Price}
-use Rattle.rules.specs.{declared.values.Value.TheVariants.Number, Values.took, Meaning.extreme_over, Laws.Meaning.price_one, Laws.Meaning.price_more}
+use Rattle.rules.specs.{Values.took, Meaning.extreme_over, Laws.Meaning.price_one, Laws.Meaning.price_more}
 use Rattle.rules.proofs.operands.field_over.Goals as goal
 
 pub field_of_bar-best-requires : goal.field_of_bar-best-requires
@@ -12,7 +13,7 @@ loop-at-init c =
     let a = c.args in
     let there : a.oldest < (history_of a.slots a.rows.now).rows = omega (arith, c.requires.0, c.requires.1) in (
       le_refl a.oldest,
-      ap (λ (x : Float). Number x) c.field_of_bar-best.ensures ∙ price_one (history_of a.slots a.rows.now) a.kind a.selector a.oldest there,
+      ap (λ (x : Float). Some x) c.field_of_bar-best.ensures ∙ price_one (history_of a.slots a.rows.now) a.kind a.selector a.oldest there,
     )
 
 pub field_of_bar-requires : goal.field_of_bar-requires
@@ -24,7 +25,7 @@ loop-at-preserved c =
     let a = c.args in
     let there : l.at + 1 < (history_of a.slots a.rows.now).rows = omega (arith, c.requires.1) in (
       omega (arith, l.invariant.0),
-      ap (λ (x : Float). Number x) (c.took-best.ensures ∙ ap (took a.kind l.best) c.field_of_bar.ensures)
+      ap (λ (x : Float). Some x) (c.took-best.ensures ∙ ap (took a.kind l.best) c.field_of_bar.ensures)
           ∙ price_more (history_of a.slots a.rows.now) a.kind a.selector a.oldest l.best l.at l.invariant.0 there l.invariant.1,
     )
 

@@ -2,14 +2,14 @@
 use Rattle.rules.specs.{Values.compared}
 use Rattle.rules.proofs.values.compared.Goals as goal
 
-pub returns-in-Missing : goal.returns-in-Missing
+pub returns-in-None : goal.returns-in-None
 unfolding compared
-returns-in-Missing c = rw c.in-Missing.is
+returns-in-None c = rw c.in-None.is
 
-pub returns-in-Missing-b : goal.returns-in-Missing-b
+pub returns-in-None-b : goal.returns-in-None-b
 unfolding compared
-returns-in-Missing-b c = rw (c.in-Number.is, c.in-Missing-b.is)
+returns-in-None-b c = rw (c.in-Some.is, c.in-None-b.is)
 
-pub returns-in-Number-b : goal.returns-in-Number-b
+pub returns-in-Some-b : goal.returns-in-Some-b
 unfolding compared
-returns-in-Number-b c = rw (c.in-Number.is, c.in-Number-b.is, c.test.ensures)
+returns-in-Some-b c = rw (c.in-Some.is, c.in-Some-b.is, c.test.ensures)

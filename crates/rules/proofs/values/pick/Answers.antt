@@ -2,14 +2,14 @@
 use Rattle.rules.specs.{Values.pick}
 use Rattle.rules.proofs.values.pick.Goals as goal
 
-pub returns-in-Missing : goal.returns-in-Missing
+pub returns-in-None : goal.returns-in-None
 unfolding pick
-returns-in-Missing c = rw c.in-Missing.is
+returns-in-None c = rw c.in-None.is
 
-pub returns-in-Missing-later : goal.returns-in-Missing-later
+pub returns-in-None-later : goal.returns-in-None-later
 unfolding pick
-returns-in-Missing-later c = rw (c.in-Number.is, c.in-Missing-later.is)
+returns-in-None-later c = rw (c.in-Some.is, c.in-None-later.is)
 
-pub returns-in-Number-later : goal.returns-in-Number-later
+pub returns-in-Some-later : goal.returns-in-Some-later
 unfolding pick
-returns-in-Number-later c = rw (c.in-Number.is, c.in-Number-later.is, c.took.ensures)
+returns-in-Some-later c = rw (c.in-Some.is, c.in-Some-later.is, c.took.ensures)

@@ -2,15 +2,15 @@
 use Rattle.rules.specs.{Values.counted_since}
 use Rattle.rules.proofs.values.since_entry.Goals as goal
 
-pub returns-in-Never : goal.returns-in-Never
+pub returns-in-None : goal.returns-in-None
 unfolding counted_since
-returns-in-Never c = rw (← c.in_position.ensures, c.if-in_position.true, c.in-Never.is)
+returns-in-None c = rw (← c.in_position.ensures, c.if-in_position.true, c.in-None.is)
 
-pub returns-in-Bar : goal.returns-in-Bar
+pub returns-in-Some : goal.returns-in-Some
 unfolding counted_since
-returns-in-Bar c =
+returns-in-Some c =
     rw
-    (← c.in_position.ensures, c.if-in_position.true, c.in-Bar.is, ← c.bars_since.ensures) c.bars_tested.ensures
+    (← c.in_position.ensures, c.if-in_position.true, c.in-Some.is, ← c.bars_since.ensures) c.bars_tested.ensures
 
 pub returns-else-in_position : goal.returns-else-in_position
 unfolding counted_since

@@ -2,10 +2,10 @@
 use Rattle.stepping.specs.{WordRun.answer_of}
 use Rattle.stepping.proofs.day.answer_of.Goals as goal
 
-pub returns-in-Fine : goal.returns-in-Fine
+pub returns-in-Ok : goal.returns-in-Ok
 unfolding answer_of
-returns-in-Fine c = rw c.in-Fine.is
+returns-in-Ok c = rw c.in-Ok.is
 
-pub returns-in-Bad : goal.returns-in-Bad
+pub returns-in-Err : goal.returns-in-Err
 unfolding answer_of
-returns-in-Bad c = rw c.in-Bad.is c.answer_word.ensures
+returns-in-Err c = rw c.in-Err.is c.answer_word.ensures

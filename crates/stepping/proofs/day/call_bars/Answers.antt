@@ -2,8 +2,8 @@
 use Rattle.stepping.proofs.{Days.day_short, Days.day_ran}
 use Rattle.stepping.proofs.day.call_bars.Goals as goal
 
-pub returns-in-Bad : goal.returns-in-Bad
-returns-in-Bad c = day_short _ _ _ _ _ _ c.judge_short.ensures c.in-Bad.is c.answer_word.ensures
+pub returns-in-Err : goal.returns-in-Err
+returns-in-Err c = day_short _ _ _ _ _ _ c.judge_short.ensures c.in-Err.is c.answer_word.ensures
 
 pub returns : goal.returns
 returns c =

@@ -8,11 +8,11 @@ pub returns-then-no_bars : goal.returns-then-no_bars
 unfolding day_lent_lines
 returns-then-no_bars c = rw (sym c.no_bars.ensures ∙ c.if-no_bars.true) c.judge_words.ensures
 
-pub returns-in-Bad : goal.returns-in-Bad
+pub returns-in-Err : goal.returns-in-Err
 unfolding day_lent_lines lent_lines
-returns-in-Bad c =
+returns-in-Err c =
     rw (sym c.no_bars.ensures ∙ c.if-no_bars.false, ← c.settings_of.ensures)
-    (bad_block _ _ c.judge_room.ensures c.in-Bad.is)
+    (bad_block _ _ c.judge_room.ensures c.in-Err.is)
 
 pub returns : goal.returns
 unfolding day_lent_lines lent_lines

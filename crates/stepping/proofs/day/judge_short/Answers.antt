@@ -3,10 +3,10 @@ use Rattle.words.specs.Prelude.{sym, ◌∙◌}
 use Rattle.stepping.specs.{Day.short_of}
 use Rattle.stepping.proofs.day.judge_short.Goals as goal
 
-pub returns-in-Fine : goal.returns-in-Fine
+pub returns-in-Ok : goal.returns-in-Ok
 unfolding short_of
-returns-in-Fine c = rw (sym c.judge_words-words.ensures ∙ c.in-Fine.is)
+returns-in-Ok c = rw (sym c.judge_words-words.ensures ∙ c.in-Ok.is)
 
-pub returns-in-Bad : goal.returns-in-Bad
+pub returns-in-Err : goal.returns-in-Err
 unfolding short_of
-returns-in-Bad c = rw (sym c.judge_words-words.ensures ∙ c.in-Bad.is) c.judge_lent.ensures
+returns-in-Err c = rw (sym c.judge_words-words.ensures ∙ c.in-Err.is) c.judge_lent.ensures

@@ -36,25 +36,25 @@ pub overflow_add-at-then-stop : goal.overflow_add-at-then-stop
 overflow_add-at-then-stop c = let stop = c.passed_from-stop.ensures.2 c.if-stop.true in omega (arith, stop.0)
 
 -- a row in which it is missing
-pub returns-in-Missing : goal.returns-in-Missing
-returns-in-Missing c =
+pub returns-in-None : goal.returns-in-None
+returns-in-None c =
     let l = c.loop-at in
     let a = c.args in
     let stop = c.passed_from-stop.ensures.2 c.if-stop.true in
     let i = l.at + c.passed_from-stop.result.passed + 1 in
     let here : a.oldest + (i - a.oldest) ≡ i = omega (arith, l.invariant.0) in
     sym (any_missing (ring_of a.slots a.first a.rows.now) a.kind (over_of a.slot a.which) a.oldest (a.last - a.oldest) (i - a.oldest)
-    (omega (arith, stop.0)) (rw here (sym stop.1 ∙ c.in-Missing.is)))
+    (omega (arith, stop.0)) (rw here (sym stop.1 ∙ c.in-None.is)))
 
-pub loop-at-smaller-in-Number : goal.loop-at-smaller-in-Number
-loop-at-smaller-in-Number c =
+pub loop-at-smaller-in-Some : goal.loop-at-smaller-in-Some
+loop-at-smaller-in-Some c =
     let stop = c.passed_from-stop.ensures.2 c.if-stop.true in
     omega (arith, stop.0)
 
 -- a row that has it
-pub loop-at-preserved-in-Number : goal.loop-at-preserved-in-Number
+pub loop-at-preserved-in-Some : goal.loop-at-preserved-in-Some
 unfolding pick
-loop-at-preserved-in-Number c =
+loop-at-preserved-in-Some c =
     let l = c.loop-at in
     let a = c.args in
     let stop = c.passed_from-stop.ensures.2 c.if-stop.true in
@@ -66,7 +66,7 @@ loop-at-preserved-in-Number c =
         extreme_more (ring_of a.slots a.first a.rows.now) a.kind (over_of a.slot a.which) a.oldest i le,
         ← c.passed_from-stop.ensures.1 a.oldest l.invariant.0 l.invariant.2,
         ← stop.1,
-        c.in-Number.is,
+        c.in-Some.is,
         c.took-best.ensures,
       ),
     )

@@ -1,15 +1,16 @@
 -- Missing where the newest or the oldest of the rows is not there.
+use Rattle.std.specs.Prelude.{None}
 use Rattle.words.specs.Prelude.{arith, ◌≡◌, sym, ◌∙◌, ℕ, ◌-◌, ◌<◌, ◌≤◌}
 use Rattle.rows.specs.{History.History}
 use Rattle.table.specs.{declared.series.Series.Series, Trees.extreme}
-use Rattle.rules.specs.{declared.values.Value.TheVariants.Missing, Meaning.extreme_over, Laws.Meaning.extreme_value, Laws.Meaning.extreme_early}
+use Rattle.rules.specs.{Meaning.extreme_over, Laws.Meaning.extreme_value, Laws.Meaning.extreme_early}
 use Rattle.rules.specs.{Laws.Meaning.extreme_late}
 use Rattle.steps.specs.{Machine.ago}
 use Rattle.steps.proofs.{Rows.ring_held, Rows.there_ago, Rows.ago_late}
 use Rattle.steps.proofs.looking.extreme_ago.Goals as goal
 
 module _ (h : History) (kind : ℕ) (over : Series) (n back held : ℕ) (is : held ≡ h.rows) (near : back < held) where
-  too_few : held - 1 - back < n - 1 → ago h (extreme kind over n) back ≡ Missing
+  too_few : held - 1 - back < n - 1 → ago h (extreme kind over n) back ≡ None
   too_few l =
       there_ago h (extreme kind over n) back (rw is at near)
       ∙ extreme_value h kind over n (h.rows - 1 - back)

@@ -1,8 +1,8 @@
 -- As many rows as follow before the words' end are looked at, so they stand one after the other. The best is the float of its word.
+use Rattle.std.specs.Prelude.{Some}
 use Rattle.words.specs.Prelude.{◌+◌, ◌-◌, ◌*◌, ◌<◌, ◌≤◌, ◌≡◌, sym, ap, ◌∙◌, subst, T, binary64, of_bits-to_bits, arith, length}
 use Rattle.floats.specs.{Floats.float_of}
 use Rattle.rows.specs.{Laws.Ring.place_within}
-use Rattle.rules.specs.{declared.values.Value.TheVariants.Number}
 use Rattle.steps.specs.{Looks.over_of}
 use Rattle.steps.proofs.{Rows.place_ends, Looks.rows_end, Looks.best_on}
 use Rattle.steps.proofs.looking.quick_from.Goals as goal
@@ -63,7 +63,7 @@ returns-then-word-lt-INFINITY c =
       omega (arith, most, c.requires.2),
       λ oldest le so_far.
           rw (c.float_of.ensures, c.quick_rows-quick.ensures.1, back, c.place-row.ensures)
-          (best_on a.slots a.first a.rows.now a.held c.requires.0 c.requires.1 a.kind over (Number a.best) oldest a.at m le
+          (best_on a.slots a.first a.rows.now a.held c.requires.0 c.requires.1 a.kind over (Some a.best) oldest a.at m le
           (omega (arith, most, c.requires.2, c.requires.3)) (rw (← c.place-row.ensures) (omega (arith, most, row_within))) so_far),
     )
 

@@ -1,6 +1,7 @@
+use Rattle.std.specs.Prelude.{Some}
 use Rattle.words.specs.Prelude.{ℕ, ◌+◌, ◌-◌, ◌*◌, ◌<◌, ◌≤◌, ◌≡◌, refl, arith, mul-le-mul_right, length, not-false}
 use Rattle.floats.specs.{Floats.float_of}
-use Rattle.rules.specs.{declared.values.Value.TheVariants.Number, Values.words_from, Values.took}
+use Rattle.rules.specs.{Values.words_from, Values.took}
 use Rattle.steps.specs.{Looks.over_of, Looks.of_row, Looks.best_after}
 use Rattle.steps.proofs.{Words.high_stays, Words.high_goes, Words.low_stays, Words.low_goes, Looks.place_in, Looks.next_row, Looks.best_next}
 use Rattle.steps.proofs.looking.quick_rows.Goals as goal
@@ -116,12 +117,12 @@ loop-left-preserved c =
     let k = a.count - l.left in
     let more : a.count - (l.left - 1) ≡ k + 1 = omega (arith, c.loop-left-test.true, l.invariant.0) in
     let word = words_from ws l.at c.place_of-place.result in
-    let found : of_row over (words_from ws (a.base + k * (7 + a.slots))) ≡ Number (float_of word) =
+    let found : of_row over (words_from ws (a.base + k * (7 + a.slots))) ≡ Some (float_of word) =
     rw (← l.invariant.1, c.place_of-place.ensures) (c.has_word.ensures (not-false _ c.if-not-has_word.false-raw)) in (
       omega (arith, l.invariant.0),
       next_row a.base l.at k (a.count - (l.left - 1)) (7 + a.slots) l.invariant.1 more,
       picked.0,
-      best_next a.kind over ws a.slots a.base (Number (float_of a.start)) k (a.count - (l.left - 1)) (float_of l.best) (float_of word)
+      best_next a.kind over ws a.slots a.base (Some (float_of a.start)) k (a.count - (l.left - 1)) (float_of l.best) (float_of word)
           (float_of c.if-kind-eq-HIGHEST.best) more l.invariant.3 found picked.1,
     )
 

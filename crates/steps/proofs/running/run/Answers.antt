@@ -16,9 +16,9 @@ unfolding ran_if runs
 returns-then-depth-gt-MOST_ROWS c =
     rw (le-ltb _ _ c.if-slots-gt-MOST_SLOTS.false, le-ltb _ _ c.if-depth-lt1.false, lt-ltb _ _ c.if-depth-gt-MOST_ROWS.true)
 
-pub returns-in-Well : goal.returns-in-Well
+pub returns-in-Ok : goal.returns-in-Ok
 unfolding ran_if runs
-returns-in-Well c =
+returns-in-Ok c =
     rw (
       le-ltb _ _ c.if-slots-gt-MOST_SLOTS.false,
       le-ltb _ _ c.if-depth-lt1.false,
@@ -28,13 +28,13 @@ returns-in-Well c =
       ← c.state_right.ensures,
       c.if-state_right.true,
       ← c.check.ensures,
-      c.in-Well.is,
+      c.in-Ok.is,
       c.run.ensures,
     )
 
-pub returns-in-Bad : goal.returns-in-Bad
+pub returns-in-Err : goal.returns-in-Err
 unfolding ran_if runs
-returns-in-Bad c =
+returns-in-Err c =
     rw (
       le-ltb _ _ c.if-slots-gt-MOST_SLOTS.false,
       le-ltb _ _ c.if-depth-lt1.false,
@@ -44,7 +44,7 @@ returns-in-Bad c =
       ← c.state_right.ensures,
       c.if-state_right.true,
       ← c.check.ensures,
-      c.in-Bad.is,
+      c.in-Err.is,
     )
 
 pub returns-else-state_right : goal.returns-else-state_right

@@ -11,10 +11,10 @@ returns-then-count-eq0 c = account_none _ _ _ _ _ _ _ c.if-count-eq0.true
 pub returns-then-is_stopped : goal.returns-then-is_stopped
 returns-then-is_stopped c = account_stopped _ _ _ _ _ _ _ c.if-count-eq0.false (sym c.is_stopped.ensures ∙ c.if-is_stopped.true)
 
-pub returns-in-Bad : goal.returns-in-Bad
-returns-in-Bad c =
+pub returns-in-Err : goal.returns-in-Err
+returns-in-Err c =
     account_refused _ _ _ _ _ _ _ c.if-count-eq0.false (sym c.is_stopped.ensures ∙ c.if-is_stopped.false) c.settings_of-chosen.ensures
-    (sym c.judge_profile.ensures ∙ c.in-Bad.is) c.stop.ensures
+    (sym c.judge_profile.ensures ∙ c.in-Err.is) c.stop.ensures
 
 pub ride-went-requires : goal.ride-went-requires
 ride-went-requires c = (

@@ -9,8 +9,8 @@ judge_streams-requires c = tt
 pub answer_word-requires : goal.answer_word-requires
 answer_word-requires c = tt
 
-pub returns-in-Bad : goal.returns-in-Bad
-returns-in-Bad c = accounts_short _ _ _ c.judge_streams.ensures c.in-Bad.is c.answer_word.ensures
+pub returns-in-Err : goal.returns-in-Err
+returns-in-Err c = accounts_short _ _ _ c.judge_streams.ensures c.in-Err.is c.answer_word.ensures
 
 pub word-slots-requires : goal.word-slots-requires
 word-slots-requires c = tt

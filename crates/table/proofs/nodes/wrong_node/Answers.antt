@@ -1,5 +1,6 @@
+use Rattle.std.specs.Prelude.{None, Some}
 use Rattle.words.specs.Prelude.{◌≡◌, ◌∙◌, sym, ap, true, false, List, ℕ, ◌+◌, ◌-◌, ◌≤◌, ◌<◌, sub-zero, rules}
-use Rattle.table.specs.{declared.places.Place.TheVariants.Nowhere, declared.places.Place.TheVariants.At, Nodes.node_right, Nodes.wrong_node}
+use Rattle.table.specs.{Nodes.node_right, Nodes.wrong_node}
 use Rattle.table.specs.{Laws.Forest.left_suc, Laws.Forest.left_zero}
 use Rattle.table.proofs.nodes.wrong_node.Goals as goal
 
@@ -8,11 +9,11 @@ module _ (t : List ℕ) (e i : ℕ) where
   unfolding wrong_node
   wrong_step h r = rw (left_suc e i h, r)
 
-  wrong_found : i < e → node_right t i ≡ false → wrong_node t (e - i) i ≡ At i
+  wrong_found : i < e → node_right t i ≡ false → wrong_node t (e - i) i ≡ Some i
   unfolding wrong_node
   wrong_found h r = rw (left_suc e i h, r)
 
-  wrong_none : e ≤ i → wrong_node t (e - i) i ≡ Nowhere
+  wrong_none : e ≤ i → wrong_node t (e - i) i ≡ None
   unfolding wrong_node
   wrong_none h = rw (left_zero e i h)
 

@@ -1,13 +1,14 @@
 -- `or_place` meets its contract.
 -- Assumes nothing.
+use Rattle.std.specs.Prelude.{Option, ℕ}
 use Rattle.words.specs.Prelude.{sym, ap, rules}
-use Rattle.table.specs.{declared.places.Place.Place, Order.or_place}
+use Rattle.table.specs.{Order.or_place}
 use Rattle.table.proofs.places.or_place.Goals as goal
 
-pub returns-in-At : goal.returns-in-At
+pub returns-in-Some : goal.returns-in-Some
 unfolding or_place
-returns-in-At c = sym (ap (λ (p : Place). or_place p c.args.q) c.in-At.is)
+returns-in-Some c = sym (ap (λ (p : Option ℕ). or_place p c.args.q) c.in-Some.is)
 
-pub returns-in-Nowhere : goal.returns-in-Nowhere
+pub returns-in-None : goal.returns-in-None
 unfolding or_place
-returns-in-Nowhere c = search rules
+returns-in-None c = search rules
