@@ -8,12 +8,12 @@ ghost use Rattle.table.specs.Checked.{checked};
 ghost use Rattle.answers.specs.Text.{put, next, IsPrefixLen};
 ghost use Rattle.answers.specs.Lines.{two_numbers, line_of};
 
-use words::refusal::Refusal;
-use table::answer::Accepted;
 use put::{put, put_decimal};
 use std::alloc::Global;
 use std::io;
 use std::io::{Read, Write};
+use table::answer::Accepted;
+use words::refusal::Refusal;
 
 // "the first 4,113 bytes": as many bytes of an input as a program reads. One more than the longest table has, so that a longer input is
 // refused: the stored input of `toolong` is that long.

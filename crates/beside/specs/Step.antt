@@ -22,12 +22,12 @@ eleven_holds [] = true
 eleven_holds (l ∷ ls) = cond (eqb (number_of l.why) 11) l.ok true && eleven_holds ls
 
 -- then the lines come to no 11
-by_line : (ok : Bool) (v : Verdict) (n p : ℕ) (r : Refusal) → cond (eqb n 11) ok true ≡ true → (v ≡ Err r → number_of r ≡ 11 → ⊥)
-    → cond ok v (Err (refusal n p)) ≡ Err r → number_of r ≡ 11 → ⊥
-by_line true v n p r holds below e eleven = below e eleven
-by_line false v n p r holds below e eleven =
-    let same : n ≡ (number_of r) = cc in
-    let f : ◌≡◌ {A = Bool} false true = rw (eq-eqb n 11 (same ∙ eleven)) at holds in
+by_line : (ok : Bool) (v : Verdict) (why r : Refusal) → cond (eqb (number_of why) 11) ok true ≡ true → (v ≡ Err r → number_of r ≡ 11 → ⊥)
+    → cond ok v (Err why) ≡ Err r → number_of r ≡ 11 → ⊥
+by_line true v why r holds below e eleven = below e eleven
+by_line false v why r holds below e eleven =
+    let same : number_of why ≡ number_of r = cc in
+    let f : ◌≡◌ {A = Bool} false true = rw (eq-eqb (number_of why) 11 (same ∙ eleven)) at holds in
     let z : ◌≡◌ {A = ℕ} 0 1 = cc in omega arith
 
 lines_other : (ls : List Line) (r : Refusal) → eleven_holds ls ≡ true → judged ls ≡ Err r → number_of r ≡ 11 → ⊥
@@ -35,7 +35,7 @@ unfolding judged eleven_holds
 lines_other [] r holds e = never (sym e)
 lines_other (l ∷ ls) r holds e =
     let both = and_true (cond (eqb (number_of l.why) 11) l.ok true) (eleven_holds ls) holds in
-    by_line l.ok (judged ls) (number_of l.why) (place_of l.why) r both.0 (lines_other ls r both.1) e
+    by_line l.ok (judged ls) l.why r both.0 (lines_other ls r both.1) e
 
 holds_under : (a b : List Line) → eleven_holds a ≡ true → eleven_holds b ≡ true → eleven_holds (a ++ b) ≡ true
 unfolding eleven_holds

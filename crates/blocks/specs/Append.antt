@@ -4,6 +4,7 @@ use Rattle.words.specs.{Limits.most_count}
 use Rattle.floats.specs.{Floats.float_of, Floats.finite}
 use Rattle.blocks.specs.{Blocks.block_bars, Blocks.block_words, Blocks.put, Blocks.grown}
 use Rattle.words.specs.{declared.refusal.Refusal.Refusal}
+use Rattle.words.specs.declared.refusal.Refusal.TheVariants as Refusal
 
 -- what an append answers, and both rooms as it leaves them
 pub record Append : Type 0 where
@@ -27,9 +28,6 @@ kept held close closes blocks = record {
   blocks = put blocks (held / block_bars) (grown blocks held close);
 }
 
-abbrev pub refused : ℕ → ℕ → Result ℕ Refusal
-refused number place = Err (refusal number place)
-
 -- a refusal changes neither room
 abbrev pub unchanged : Result ℕ Refusal → List ℕ → List ℕ → Append
 unchanged answer closes blocks = record { answer = answer; closes = closes; blocks = blocks }
@@ -39,6 +37,6 @@ unfoldable pub appended : ℕ → ℕ → List ℕ → List ℕ → Append
 appended held close closes blocks =
     cond (place_for_close held closes)
     (cond (place_for_block held blocks)
-    (cond (finite (float_of close)) (kept held close closes blocks) (unchanged (refused 11 held) closes blocks))
-    (unchanged (refused 10 13) closes blocks))
-    (unchanged (refused 10 12) closes blocks)
+    (cond (finite (float_of close)) (kept held close closes blocks) (unchanged (Err (Refusal.Bar held)) closes blocks))
+    (unchanged (Err (Refusal.Room 13)) closes blocks))
+    (unchanged (Err (Refusal.Room 12)) closes blocks)

@@ -4,6 +4,7 @@ use Rattle.words.specs.{Limits.most_count}
 use Rattle.blocks.specs.{Blocks.block_bars, Blocks.block_words, Reads.reads, Reads.told}
 use Rattle.blocks.specs.{declared.best.Best.Best}
 use Rattle.words.specs.{declared.refusal.Refusal.Refusal}
+use Rattle.words.specs.declared.refusal.Refusal.TheVariants as Refusal
 
 -- "13 | counts .. exceed the rooms or 4,294,967,295": each bar has its close, and its block
 abbrev pub holds : ℕ → List ℕ → List ℕ → Bool
@@ -14,12 +15,9 @@ holds held closes blocks =
 abbrev pub exists : ℕ → ℕ → ℕ → Bool
 exists held first last = leb first last && (ltb first held && ltb last held)
 
-abbrev pub refused : ℕ → Result Best Refusal
-refused number = Err (refusal number 0)
-
 -- "The highest and lowest close between two bars", both included, by what a question over them reads.
 unfoldable pub stretched : ℕ → ℕ → ℕ → List ℕ → List ℕ → Result Best Refusal
 stretched held first last closes blocks =
     cond (holds held closes blocks)
-    (cond (exists held first last) (Ok (told closes blocks (reads first (last + 1 - first)))) (refused 18))
-    (refused 13)
+    (cond (exists held first last) (Ok (told closes blocks (reads first (last + 1 - first)))) (Err Refusal.Stretch))
+    (Err Refusal.Records)

@@ -38,13 +38,6 @@ fn put_bar(closes: &mut [u64], blocks: &mut [u64], held: usize, close: u64)
     blocks[at + 3] = best.low_bar;
 }
 
-// Refused: the number and its place.
-fn refused(number: u64, place: u64) -> Result<usize, Refusal>
-    ensures { result ≡ Rattle.blocks.specs.Append.refused number place }
-{
-    Err(Refusal { number, place })
-}
-
 // Appends a close to the bars held: 10 where a room has no place for it, then 11 where it is not finite.
 #[tactic(auto, unfolding(crate::specs::Append::appended))]
 pub fn append(held: usize, close: u64, closes: &mut [u64], blocks: &mut [u64]) -> Result<usize, Refusal>

@@ -7,13 +7,6 @@ use crate::question::ask;
 use words::limits::MOST_COUNT;
 use words::refusal::Refusal;
 
-// Refused: a number, at 0.
-fn refused(number: u64) -> Result<Best, Refusal>
-    ensures { result ≡ Stretch.refused number }
-{
-    Err(Refusal { number, place: 0 })
-}
-
 // Whether both rooms hold so many bars, and these can be counted.
 fn holds(held: usize, closes: &[u64], blocks: &[u64]) -> bool
     ensures { result ≡ Stretch.holds held closes.now blocks.now }

@@ -12,7 +12,7 @@ use Rattle.stepping.specs.{Bars.lent_lines}
 use Rattle.capi.specs.{Finish.finish_gives, Finish.finish_call}
 use Rattle.capi.proofs.{Calling.call_bad, Calling.call_refused, Calling.call_gives}
 use Rattle.metrics.specs.Figures as Figures
-use Rattle.engine.specs.{Ended.ended}
+use Rattle.engine.specs.{Ended.at_end}
 use Rattle.refusals.specs.{Lines.Verdict}
 
 -- a refused end changes no room
@@ -48,7 +48,7 @@ module _ (settings state : List ℕ) (m : Rooms) (metrics : List ℕ) {v : Verdi
         let unchanged = finish_keeps (settings_of settings) (state_of state) m r u (sym d.result ∙ refused) in
         call_refused _ _ _ (sym lent ∙ all) (finish_ran ∙ simp refused) word ∙ simp (d.equity, d.trades, unchanged)
 
-    pub finish_done : {next : State} {figures : Metrics} {words nine : List ℕ} → finished ≡ ended next figures
+    pub finish_done : {next : State} {figures : Metrics} {words nine : List ℕ} → finished ≡ at_end next figures
         → words ≡ overwrite state 0 (words_of next) → nine ≡ overwrite metrics 0 (Figures.figure_words figures)
         → finish_call settings state m metrics ≡ record { answer = 0; lent = record { state = words; equity = es; trades = ts; metrics = nine } }
     unfolding finish_call finish_gives

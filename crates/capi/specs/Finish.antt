@@ -7,10 +7,10 @@ use Rattle.engine.specs.{Finish.finish_of}
 use Rattle.replies.specs.{Call.Call, Call.call_of, Call.unless_bad, Call.metric_lines}
 use Rattle.stepping.specs.{Bars.lent_lines}
 use Rattle.metrics.specs.Figures as Figures
+use Rattle.records.specs.{declared.state.State.State}
 use Rattle.engine.specs.{declared.answer.Ended.Ended}
 use Rattle.engine.specs.{Ended.ended}
 use Rattle.words.specs.{declared.refusal.Refusal.Refusal}
-use Rattle.records.specs.{declared.state.State.State}
 
 -- the state's words, the rooms of equity points and of trades, and that of the metrics
 pub record FinishLent : Type 0 where

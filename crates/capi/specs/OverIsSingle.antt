@@ -17,8 +17,7 @@ use Rattle.capi.specs.{Why.why_gives, Why.why_call, WhyOver.OverLent, WhyOver.ov
 use Rattle.capi.specs.{Laws.WhyOverCalls.why_over_honest}
 use Rattle.refusals.specs.{Lines.Verdict}
 use Rattle.words.specs.{declared.refusal.Refusal.Refusal}
-use Rattle.table.specs.{declared.answer.Accepted.Accepted}
-use Rattle.table.specs.{Outcome.accepts}
+use Rattle.table.specs.{declared.answer.Accepted.Accepted, Outcome.accepts}
 
 -- ---- the statement
 

@@ -8,9 +8,9 @@ use Rattle.dumpable.specs.{Refused.dump_judged}
 use Rattle.dump.specs.{Order.written}
 use Rattle.replies.specs.{Call.Call, Call.call_of, Call.unless_bad}
 use Rattle.stepping.specs.{Bars.lent_lines}
+use Rattle.records.specs.{declared.state.State.State}
 use Rattle.refusals.specs.{Lines.Verdict}
 use Rattle.words.specs.{declared.refusal.Refusal.Refusal}
-use Rattle.records.specs.{declared.state.State.State}
 
 unfoldable pub dump_gives : Verdict → List ℕ → Outcome (List ℕ)
 dump_gives (Ok tt) after = gives after

@@ -8,8 +8,8 @@ use Rattle.needed.specs.{Depth.depth_answer}
 use Rattle.steps.specs.{Translating.after_table, Translating.translates, Translating.room_left}
 use Rattle.replies.specs.{Call.Call, Call.call_of}
 use Rattle.words.specs.{declared.refusal.Refusal.Refusal}
-use Rattle.table.specs.{declared.answer.Accepted.Accepted}
 use Rattle.needed.specs.{Outcome.needs}
+use Rattle.table.specs.{declared.answer.Accepted.Accepted}
 use Rattle.needed.specs.{declared.depth.Needs.Needs}
 
 -- a tree by its number; that of a higher number is absent, as each call says

@@ -12,7 +12,6 @@ use Rattle.chain.specs.{Lines.put_lines, Explained.explanation, Explained.explai
 use Rattle.chain.specs.{Flat.flat_explanation, Laws.Numbered.explanation_found, Laws.Lines.lines_put, Laws.Short.few_lines}
 use Rattle.table.specs.{declared.answer.Accepted.Accepted}
 use Rattle.table.specs.{Outcome.accepts}
-use Rattle.words.specs.declared.refusal.Refusal.TheVariants as Refusal
 
 module _ (t ends : List ℕ) (x : ℕ) (rows : List ℕ) (s : PositionState) (list : List ℕ) where
   -- no such tree

@@ -9,7 +9,6 @@ use Rattle.chain.specs.{Missing.in_table, Chain.ChainLine, Chain.chain, Lines.li
 use Rattle.chain.specs.{Lines.chain_words}
 use Rattle.words.specs.{declared.refusal.Refusal.Refusal}
 use Rattle.table.specs.{declared.answer.Accepted.Accepted}
-use Rattle.words.specs.declared.refusal.Refusal.TheVariants as Refusal
 
 -- "Given a table, rows and position state, list the chain of nodes from the root to what decided": at the newest bar, and with the
 -- table's own node numbers. "an absent tree has no lines"; a number above 3 names no tree.

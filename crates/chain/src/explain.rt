@@ -49,7 +49,13 @@ pub fn explain_tree(
 
 // Why a tree, by its number, says what it says at the newest row: its lines into the list, and how many they are. A number above 3
 // names no tree.
-pub fn explain(t: &[u8], tree: u64, rows: &[u64], s: PositionState, lines: &mut [u64]) -> Result<usize, Refusal>
+pub fn explain(
+    t: &[u8],
+    tree: u64,
+    rows: &[u64],
+    s: PositionState,
+    lines: &mut [u64],
+) -> Result<usize, Refusal>
     ensures value { result ≡ explained t.now tree rows.now s lines.old }
     ensures lines_after { lines.new ≡ lines_after_answer result (explanation t.now tree rows.now s) lines.old }
 {

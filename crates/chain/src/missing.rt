@@ -14,7 +14,10 @@ use rules::{shapes, values};
 use table::series::{Series, series_in};
 
 // The one of the two that comes first.
-pub(crate) fn first_found(first: Option<(usize, usize)>, second: Option<(usize, usize)>) -> Option<(usize, usize)>
+pub(crate) fn first_found(
+    first: Option<(usize, usize)>,
+    second: Option<(usize, usize)>,
+) -> Option<(usize, usize)>
     ensures { result ≡ Missing.first_found first second }
 {
     match first {
@@ -46,7 +49,14 @@ fn leaf_gone(
 }
 
 // Node i, a price or a slot, where it is missing `back` bars before `bar`.
-fn series_gone(rows: &[u64], slots: usize, over: Series, i: usize, bar: usize, back: usize) -> Option<(usize, usize)>
+fn series_gone(
+    rows: &[u64],
+    slots: usize,
+    over: Series,
+    i: usize,
+    bar: usize,
+    back: usize,
+) -> Option<(usize, usize)>
     ensures { result ≡ leaf_gone (history_of slots rows.now) (as_operand over) i bar back }
 {
     if bar < back {

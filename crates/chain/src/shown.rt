@@ -9,7 +9,9 @@ ghost use Rattle.chain.specs.Chain.{shown_by, shown_since, shown};
 ghost use Rattle.chain.specs.Lines.{value_word, detail, leaf_or, detail_of};
 ghost use Rattle.chain.specs.Flat.{by_ends};
 
-use crate::lines::{AT_FIRST_BAR, LINK, MISSING, NO_ENTRY, POSITION, SINCE_ENTRY, TOO_FEW_BARS, VALUES};
+use crate::lines::{
+    AT_FIRST_BAR, LINK, MISSING, NO_ENTRY, POSITION, SINCE_ENTRY, TOO_FEW_BARS, VALUES,
+};
 use crate::missing::{first_found, first_missing};
 use rules::operands::eval_operand;
 use rules::position::PositionState;
@@ -61,7 +63,14 @@ fn bare(sort: u64) -> Detail
 }
 
 // The first missing leaf, or up to four values, of which `used` are used.
-fn leaf_or(gone: Option<(usize, usize)>, used: u64, first: u64, second: u64, third: u64, fourth: u64) -> Detail
+fn leaf_or(
+    gone: Option<(usize, usize)>,
+    used: u64,
+    first: u64,
+    second: u64,
+    third: u64,
+    fourth: u64,
+) -> Detail
     ensures { result ≡ leaf_or gone (record { sort = 1; used = used; first = first; second = second; third = third; fourth = fourth }) }
 {
     match gone {

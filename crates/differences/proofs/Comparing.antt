@@ -1,10 +1,11 @@
 -- What the comparison answers and leaves, from what was counted: one law for each way out.
 use Rattle.std.specs.Prelude.{Ok, Result, ℕ}
+use Rattle.std.specs.Prelude.{Err}
 use Rattle.words.specs.Prelude.{ℕ, ◌+◌, ◌*◌, ◌≤◌, min, ◌≡◌, sym, ap, ◌∙◌, true, false, List, arith, leb-true, leb, length}
 use Rattle.words.specs.{Limits.trade_words, Words.overwrite}
 use Rattle.differences.specs.{Lines.Line, Lines.points, Lines.trades}
 use Rattle.differences.specs.{Lines.first_point, Lines.word_lines, Lines.differences_from, Lines.differences, Lines.words_of, Compared.Comparison}
-use Rattle.differences.specs.{Compared.refused, Compared.written, Laws.Counted.few_lines, Laws.Counted.all_lines}
+use Rattle.differences.specs.{Compared.written, Laws.Counted.few_lines, Laws.Counted.all_lines}
 use Rattle.differences.specs.{Laws.Written.none_written, Laws.Written.no_lines}
 use Rattle.words.specs.{declared.refusal.Refusal.Refusal}
 
@@ -30,7 +31,7 @@ module _ {e t e' t' : List ℕ} {p n k few words : ℕ} (got : Counted e t e' t'
   count : length (differences e t e' t') ≡ few + words
   count = ap length same ∙ many
 
-  pub refuses : leb (5 * (few + words)) (length room) ≡ false → (r : Result ℕ Refusal) → r ≡ refused 10 15
+  pub refuses : leb (5 * (few + words)) (length room) ≡ false → (r : Result ℕ Refusal) → r ≡ Err (Refusal.Room 15)
       → written (differences e t e' t') room ≡ record { answer = r; room = room }
   unfolding written
   refuses h r said = simp (count, h, said)

@@ -13,17 +13,14 @@ pub record Comparison : Type 0 where
 abbrev pub whole : List ℕ → List ℕ → Bool
 whole equity list = eqb (length equity % point_words) 0 && eqb (length list % trade_words) 0
 
-abbrev pub refused : ℕ → ℕ → Result ℕ Refusal
-refused number place = Err (refusal number place)
-
 -- the lines that there are, where the room holds them all: "10 if the lent list can't hold them all"
 unfoldable pub written : List Line → List ℕ → Comparison
 written ls room =
     cond (leb (line_words * length ls) (length room)) (record { answer = Ok (length ls); room = overwrite room 0 (words_of ls) })
-    (record { answer = refused 10 15; room = room })
+    (record { answer = Err (Refusal.Room 15); room = room })
 
 -- "Refusals: 13 here comes first, then 10"; a refusal leaves the room
 unfoldable pub compared : List ℕ → List ℕ → List ℕ → List ℕ → List ℕ → Comparison
 compared equity list otherEquity otherList room =
     cond (whole equity list && whole otherEquity otherList) (written (differences equity list otherEquity otherList) room)
-    (record { answer = refused 13 0; room = room })
+    (record { answer = Err Refusal.Records; room = room })

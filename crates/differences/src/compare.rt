@@ -15,13 +15,6 @@ use words::refusal::Refusal;
 // The room of the lines.
 const LINES_ROOM: u64 = 15;
 
-// Refused: the number and its place.
-fn refused(number: u64, place: u64) -> Result<usize, Refusal>
-    ensures { result ≡ Comparing.refused number place }
-{
-    Err(Refusal { number, place })
-}
-
 // Whether both lists of a run are whole records.
 fn whole(equity: &[u64], trades: &[u64]) -> bool
     ensures { result ≡ Comparing.whole equity.now trades.now }

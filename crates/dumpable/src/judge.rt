@@ -12,7 +12,7 @@ use records::settings::Settings;
 use records::state::{Counts, State};
 use refusals::rooms::{judge_room, judge_state};
 use refusals::setting::judge_settings;
-use refusals::verdict::{Verdict, first_bad, line};
+use refusals::verdict::{Verdict, line};
 use words::limits::{MOST_COUNT, ROW_FIXED};
 
 // The number of the area among the rooms.
@@ -40,7 +40,7 @@ fn judge_area(s: Settings, area: &[u8]) -> Verdict
     ensures { result ≡ judged (area_lines s area.now) }
 {
     let enough = has_place(area.len(), s.slots, s.depth);
-    line(enough, Refusal::Room(AREA), Ok(()))
+    line(enough, Refusal::Room(AREA))
 }
 
 // The state with nothing in its books.
@@ -71,26 +71,26 @@ fn judge_counts(s: Settings, t: State, rows: &[u64]) -> Verdict
     let n = t.counts;
     let none: usize = 0;
     let nothing = &rows[none..none];
-    let below = judge_state(s, emptied(t), rows, nothing, nothing);
-    let below = line(n.trades as u64 <= MOST_COUNT, Refusal::Records, below);
-    line(n.equity_points as u64 <= MOST_COUNT, Refusal::Records, below)
+    line(n.equity_points as u64 <= MOST_COUNT, Refusal::Records)?;
+    line(n.trades as u64 <= MOST_COUNT, Refusal::Records)?;
+    judge_state(s, emptied(t), rows, nothing, nothing)
 }
 
 // All of it.
 pub fn judge_dump(s: Settings, t: State, rows: &[u64], area: &[u8]) -> Verdict
     ensures { result ≡ dump_judged s t rows.now area.now }
 {
-    let below = judge_counts(s, t, rows);
-    let below = first_bad(judge_settings(s), below);
-    let below = first_bad(judge_area(s, area), below);
-    first_bad(judge_room(s, rows), below)
+    judge_room(s, rows)?;
+    judge_area(s, area)?;
+    judge_settings(s)?;
+    judge_counts(s, t, rows)
 }
 
 // All but the area.
 pub fn judge_held(s: Settings, t: State, rows: &[u64]) -> Verdict
     ensures { result ≡ part_judged s t rows.now }
 {
-    let below = judge_counts(s, t, rows);
-    let below = first_bad(judge_settings(s), below);
-    first_bad(judge_room(s, rows), below)
+    judge_room(s, rows)?;
+    judge_settings(s)?;
+    judge_counts(s, t, rows)
 }

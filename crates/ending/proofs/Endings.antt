@@ -11,7 +11,6 @@ use Rattle.engine.specs.{declared.answer.Ended.Ended}
 use Rattle.engine.specs.{Books.booked, Finish.last_exit, Finish.remarked, Finish.end_state, Finish.measured}
 use Rattle.engine.specs.{Finish.ended, Finish.concluded, Finish.finish_of, Step.Is}
 use Rattle.words.specs.Limits as Limits
-use Rattle.engine.specs.{Ended.ended}
 
 -- the last point: there is none, it lies past the room, or it is written
 pub no_point : (room : List ℕ) (n : ℕ) (x : Option Closed) (close : Float) → n ≡ 0 → room ≡ remarked room n x close
@@ -47,7 +46,7 @@ module _ (s : Settings) (t : State) (m : Rooms) where
   refused why h = rw h (record { result = refl; rows = refl; equity = refl; trades = refl })
 
   pub went : finish_judged s t m ≡ Ok tt → (r : Ended) (ws es ts : List ℕ) → Is Ended (ended s t m) r ws es ts
-      → Is (Result Ended (Refusal × State)) (finish_of s t m) (ended r.state r.metrics) ws es ts
+      → Is (Result Ended (Refusal × State)) (finish_of s t m) (Ok r) ws es ts
   unfolding finish_of concluded
   went h r ws es ts d =
-      rw h (record { result = ap (λ (e : Ended). ended e.state e.metrics) d.result; rows = d.rows; equity = d.equity; trades = d.trades })
+      rw h (record { result = ap (λ (e : Ended). Ok e) d.result; rows = d.rows; equity = d.equity; trades = d.trades })

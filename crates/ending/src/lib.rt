@@ -2,6 +2,7 @@
 // The end of a run: the Rust's `finish`. What it comes to is defined in the crate engine, beside a bar.
 mod closing;
 
+ghost use Rattle.std.specs.Prelude.{Result};
 ghost use Rattle.records.specs.Lent.{rooms};
 ghost use Rattle.engine.specs.Finish.{finish_of};
 ghost use Rattle.engine.specs.Step.{Is};

@@ -9,7 +9,6 @@ use Rattle.refusals.specs.{Judgement.finish_judged, Rooms.to_close}
 use Rattle.engine.specs.{declared.answer.Ended.Ended}
 use Rattle.engine.specs.{Account.leaving, Books.booked, Step.With}
 use Rattle.words.specs.Limits as Limits
-use Rattle.engine.specs.{Ended.ended}
 use Rattle.refusals.specs.{Lines.Verdict}
 use Rattle.words.specs.{declared.refusal.Refusal.Refusal}
 use Rattle.portfolio.specs.{declared.Closed.Closed}
@@ -61,7 +60,7 @@ ended s t m =
 -- The paper's values for each case of the answer.
 unfoldable pub concluded : Verdict → State → Rooms → With Ended → With (Result Ended (Refusal × State))
 concluded (Err why) t m done = record { result = Err (why, t); rooms = m }
-concluded (Ok tt) t m done = record { result = ended done.result.state done.result.metrics; rooms = done.rooms }
+concluded (Ok tt) t m done = record { result = Ok done.result; rooms = done.rooms }
 
 unfoldable pub finish_of : Settings → State → Rooms → With (Result Ended (Refusal × State))
 finish_of s t m = concluded (finish_judged s t m) t m (ended s t m)

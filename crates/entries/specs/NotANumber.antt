@@ -1,9 +1,9 @@
 -- "Letting a NaN size through the cap as NaN (it becomes the cap)": of `size` itself. And where `size` gives a NaN all the same.
-use Rattle.std.specs.Prelude.{◌≡◌, refl, false, Float, None, Option, Some}
+use Rattle.std.specs.Prelude.{◌≡◌, refl, false, Float, None, Option, Some, unwrap_or}
 use Rattle.words.specs.Prelude.{nan}
 use Rattle.floats.specs.{Floats.◌⊘◌, Floats.◌≼◌, Floats.float_of, Floats.zero, Floats.one}
 use Rattle.execution.specs.{declared.terms.Risk.Risk, declared.terms.Sizing.Sizing, declared.terms.Sizing.TheVariants.FixedQty}
-use Rattle.execution.specs.{declared.terms.Slippage.TheVariants.FixedBps, Costs.slippage_rate, Costs.fill_price, Optional.unwrap_or, Size.wanted, Size.at_most}
+use Rattle.execution.specs.{declared.terms.Slippage.TheVariants.FixedBps, Costs.slippage_rate, Costs.fill_price, Size.wanted, Size.at_most}
 use Rattle.execution.specs.{Size.max_notional, Size.capped_qty, Size.size}
 use Rattle.std.specs.Float.Ieee as Ieee
 use Rattle.floats.specs.Floats as Floats
@@ -41,5 +41,5 @@ leveraged = record {
 -- A cap that is infinite over a price that is infinite is a NaN: one contract, with a cash of 1e300 and a leverage of 1e10, at 1e308 and 100,000 basis
 -- points of slippage. (No position is entered with it: see Ordered.)
 pub a_nan_size : size (FixedQty one) leveraged cash (fill_price raw one (slippage_rate (FixedBps points) zero zero)) None ≡ Some nan
-unfolding size capped_qty wanted max_notional at_most unwrap_or slippage_rate Floats.min Ieee.is_nan Ieee.le Ieee.lt Ieee.eq Ieee.mul Ieee.div Ieee.add Ieee.of_bits
+unfolding size capped_qty wanted max_notional at_most slippage_rate Floats.min Ieee.is_nan Ieee.le Ieee.lt Ieee.eq Ieee.mul Ieee.div Ieee.add Ieee.of_bits
 a_nan_size = refl

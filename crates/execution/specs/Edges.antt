@@ -4,7 +4,7 @@ use Rattle.words.specs.Prelude.{binary64, fin}
 use Rattle.floats.specs.{Floats.◌⊗◌, Floats.◌⊘◌, Floor.as_u64, Sums.counted}
 use Rattle.portfolio.specs.{declared.Candle.Candle, Trade.stop_loss}
 use Rattle.execution.specs.{Size.capped, Lots.whole_lots, Lots.in_lots, Intrabar.fall_to, Intrabar.fill_under, Intrabar.fill_over, Intrabar.fired}
-use Rattle.execution.specs.{Intrabar.or_else, Intrabar.first_of, Intrabar.long_exit, Intrabar.intrabar_exit}
+use Rattle.execution.specs.{Intrabar.first_of, Intrabar.long_exit, Intrabar.intrabar_exit}
 use Rattle.execution.specs.{declared.terms.Risk.Risk}
 use Rattle.std.specs.Float.Ieee as Ieee
 use Rattle.floats.specs.Floats as Floats
@@ -38,7 +38,7 @@ module _ (time : ℕ) (high close volume extreme : Float) where
   pub stop_edges : (intrabar_exit (bar (num 70) (num 68)) stop_only (num 100) extreme true ≡ touches (num 70) stop_loss)
       × (intrabar_exit (bar (num 80) (num 75)) stop_only (num 100) extreme true ≡ touches (num 75) stop_loss)
       × (intrabar_exit (bar (num 80) seventy_five_and_a_half) stop_only (num 100) extreme true ≡ None)
-  unfolding intrabar_exit long_exit first_of or_else fired fill_under fall_to fill_over Floats.min
+  unfolding intrabar_exit long_exit first_of fired fill_under fall_to fill_over Floats.min
       Ieee.of_int Ieee.of_bits Ieee.is_nan Ieee.lt Ieee.le Ieee.sub Ieee.mul Ieee.div
   stop_edges = (refl, refl, refl)
 

@@ -1,4 +1,5 @@
 -- Exits inside a bar: levels, then liquidation. Definitions only, each under what the Rust writes.
+use Rattle.std.specs.Option.{option_or}
 use Rattle.std.specs.Prelude.{Bool, cond, ℕ, Float, None, Option, Some}
 use Rattle.floats.specs.{Floats.◌⊕◌, Floats.◌⊖◌, Floats.◌⊗◌, Floats.◌⊘◌, Floats.◌≺◌, Floats.◌≼◌, Floats.min, Floats.max, Floats.zero, Floats.one}
 use Rattle.floats.specs.{Floats.hundred}
@@ -8,8 +9,8 @@ use Rattle.execution.specs.{Costs.closed}
 use Rattle.execution.specs.{declared.terms.Risk.Risk, declared.terms.Terms.Terms}
 use Rattle.execution.specs.{declared.intrabar.Trigger.Trigger}
 use Rattle.std.specs.Float.Ieee as Ieee
-use Rattle.portfolio.specs.{declared.Closed.Closed}
 use Rattle.execution.specs.{Supplied.touches}
+use Rattle.portfolio.specs.{declared.Closed.Closed}
 
 -- "The favourable extreme takes this bar first": `if is_long { extreme.max(high) } else { extreme.min(low) }`
 unfoldable pub favourable : Candle → Float → Bool → Float
@@ -42,13 +43,9 @@ unfoldable pub fired : Option Float → ℕ → Option Trigger
 fired None reason = None
 fired (Some price) reason = touches price reason
 
-unfoldable pub or_else : Option Trigger → Option Trigger → Option Trigger
-or_else (Some trigger) second = touches trigger.price trigger.reason
-or_else None second = second
-
 -- the stop before the trailing stop, and that before the target
 unfoldable pub first_of : Option Float → Option Float → Option Float → Option Trigger
-first_of stop trail take = or_else (fired stop stop_loss) (or_else (fired trail trailing_stop) (fired take take_profit))
+first_of stop trail take = option_or (option_or (fired stop stop_loss) (fired trail trailing_stop)) (fired take take_profit)
 
 -- `if is_long { .. }`
 unfoldable pub long_exit : Candle → Risk → Float → Float → Option Trigger

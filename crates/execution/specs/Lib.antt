@@ -1,4 +1,4 @@
-pub mod Optional
+pub mod Supplied
 pub mod Size
 pub mod Lots
 pub mod Volatility

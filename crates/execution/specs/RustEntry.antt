@@ -1,10 +1,10 @@
 -- An entry as the Rust has it, with no lots: what `execute_entry` is with a lot of 0 (WholeLots, `no_lots`). Definitions only, each under what
 -- the Rust writes.
-use Rattle.std.specs.Prelude.{cond, Float, None, Option, Some}
+use Rattle.std.specs.Prelude.{cond, Float, None, Option, Some, unwrap_or}
 use Rattle.floats.specs.{Floats.◌⊗◌, Floats.min, Floats.zero}
 use Rattle.rows.specs.{History.History}
 use Rattle.portfolio.specs.{declared.Candle.Candle, declared.Portfolio.Portfolio}
-use Rattle.execution.specs.{Optional.unwrap_or, Size.size, Costs.slippage_rate, Costs.fill_price, Fills.direction, Fills.volatility_for, Fills.entry_with}
+use Rattle.execution.specs.{Size.size, Costs.slippage_rate, Costs.fill_price, Fills.direction, Fills.volatility_for, Fills.entry_with}
 use Rattle.execution.specs.{declared.fills.Entry.Entry, declared.fills.Entry.TheVariants.NoEntry}
 use Rattle.execution.specs.{declared.level.Side.Side}
 use Rattle.execution.specs.{declared.terms.Slippage.Slippage, declared.terms.Slippage.TheVariants.FixedBps}

@@ -1,13 +1,12 @@
 -- `size`: the quantity of an entry, without its sign. Definitions only, each under what the Rust writes.
-use Rattle.std.specs.Prelude.{cond, Float, None, Option, Some}
+use Rattle.std.specs.Prelude.{cond, Float, None, Option, Some, unwrap_or}
 use Rattle.floats.specs.{Floats.◌⊗◌, Floats.◌⊘◌, Floats.◌≼◌, Floats.min, Floats.zero, Floats.one, Floats.hundred}
-use Rattle.execution.specs.{Optional.unwrap_or, declared.terms.Risk.Risk, declared.terms.Sizing.Sizing}
+use Rattle.execution.specs.{declared.terms.Risk.Risk, declared.terms.Sizing.Sizing}
 use Rattle.execution.specs.{declared.terms.Sizing.TheVariants.FixedFraction, declared.terms.Sizing.TheVariants.FixedQty}
 use Rattle.execution.specs.{declared.terms.Sizing.TheVariants.FixedCash, declared.terms.Sizing.TheVariants.VolTarget}
 use Rattle.execution.specs.{declared.terms.Sizing.TheVariants.RiskPerTrade, declared.terms.Sizing.TheVariants.Unknown}
-use Rattle.words.specs.declared.refusal.Refusal.TheVariants as Refusal
 
--- `let stop = risk.stop_loss_pct.ok_or_else(..)?`: the Rust's error, which Refusal.Setting keeps out, is no order here (added).
+-- `let stop = risk.stop_loss_pct.ok_or_else(..)?`: the Rust's error, which refusal 12 keeps out, is no order here (added).
 -- `if stop <= 0.0 { return Ok(None); }  (equity * risk_pct / 100.0) / (price * stop / 100.0)`
 unfoldable pub by_risk : Float → Option Float → Float → Float → Option Float
 by_risk pct None equity price = None

@@ -1,11 +1,11 @@
 -- What whole lots come to: with a lot of 0 an entry is the Rust's, and with any other every quantity that is entered is k·lot.
-use Rattle.std.specs.Prelude.{◌≡◌, refl, Bool, true, false, cond, ℕ, Float, Option, None, Some}
+use Rattle.std.specs.Prelude.{◌≡◌, refl, Bool, true, false, cond, ℕ, Float, Option, unwrap_or, None, Some}
 use Rattle.words.specs.Prelude.{ap, subst, ◌∙◌, arith}
 use Rattle.floats.specs.{Floats.◌⊗◌, Floats.◌⊘◌, Floats.◌≺◌, Floats.◌≼◌, Floats.min, Floats.eps, Floats.zero, Floats.one, Floor.as_u64, Floor.two_to53}
 use Rattle.floats.specs.{Laws.Floor.Counts, Laws.Floor.counts, Sums.counted}
 use Rattle.rows.specs.{History.History}
 use Rattle.portfolio.specs.{declared.Candle.Candle, declared.Portfolio.Portfolio, Portfolio.entered}
-use Rattle.execution.specs.{Costs.slippage_rate, Costs.fill_price, Costs.fee_rate, Optional.unwrap_or, Size.size, Lots.whole_lots, Lots.in_lots}
+use Rattle.execution.specs.{Costs.slippage_rate, Costs.fill_price, Costs.fee_rate, Size.size, Lots.whole_lots, Lots.in_lots}
 use Rattle.execution.specs.{Lots.size_in_lots, Lots.is_too_large, Lots.or_zero, Fills.direction, Fills.volatility_for, Fills.quantity, Fills.probe_qty}
 use Rattle.execution.specs.{Fills.within_volume, Fills.entry_with, Fills.execute_entry, Fills.is_turned_away, RustEntry.rust_probe, RustEntry.rust_fill}
 use Rattle.execution.specs.{RustEntry.rust_entry, declared.fills.Entry.Entry, declared.fills.Entry.TheVariants.NoEntry}
@@ -41,7 +41,7 @@ module _ (terms : Terms) (none : Ieee.eq terms.lot zero ≡ true) where
 
   probe_as_before : (slippage : Slippage) (cash raw : Float) (rv : Option Float)
       → (is_too_large (probe_qty slippage terms cash raw rv) ≡ false) × (or_zero (probe_qty slippage terms cash raw rv) ≡ rust_probe slippage terms cash raw rv)
-  unfolding probe_qty quantity rust_probe size_in_lots unwrap_or
+  unfolding probe_qty quantity rust_probe size_in_lots
   probe_as_before (FixedBps bps) cash raw rv = (refl, refl)
   probe_as_before Unknown cash raw rv = (refl, refl)
   probe_as_before (VolumeImpact coef) cash raw rv = sized (size terms.sizing terms.risk cash raw rv)

@@ -5,11 +5,11 @@ ghost use Rattle.execution.specs.Costs.{slippage_rate, closed, with_funding, cha
 use crate::terms::Slippage;
 use portfolio::{Closed, Portfolio};
 
-// The bar's funding: mark and rate, where supplied.
+// A bar's funding, where one is supplied.
 #[derive(Clone, Copy)]
-pub enum Funding {
-    NotSupplied,
-    Supplied(f64, f64),
+pub struct Funding {
+    pub mark: f64,
+    pub rate: f64,
 }
 
 // The slippage of an order of `qty` as a fraction of the price.
@@ -41,7 +41,7 @@ pub fn close(pf: Portfolio, price: f64, time: u64, taker_bps: f64, reason: u64) 
 
 // Funding for one bar, where it is switched on and a position is open.
 #[tactic(auto, unfolding(crate::specs::Costs::charge_funding))]
-pub fn charge_funding(on: bool, funding: Funding, pf: Portfolio) -> Portfolio
+pub fn charge_funding(on: bool, funding: Option<Funding>, pf: Portfolio) -> Portfolio
     ensures { result ≡ charge_funding on funding pf }
 {
     if on {
@@ -54,7 +54,7 @@ pub fn charge_funding(on: bool, funding: Funding, pf: Portfolio) -> Portfolio
 }
 
 #[tactic(auto, unfolding(crate::specs::Costs::with_funding))]
-fn with_funding(funding: Funding, pf: Portfolio) -> Portfolio
+fn with_funding(funding: Option<Funding>, pf: Portfolio) -> Portfolio
     ensures { result ≡ with_funding funding pf }
 {
     match funding {

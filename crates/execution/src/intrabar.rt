@@ -2,19 +2,18 @@
 // gaps: a bar that opens beyond a level fills at the open.
 ghost use Rattle.std.specs.Prelude.{◌≡◌};
 ghost use Rattle.execution.specs.Intrabar.{favourable, extreme_with, fall_to, rise_to, fill_under, fill_over};
-ghost use Rattle.execution.specs.Intrabar.{fired, or_else, first_of, long_exit, short_exit, intrabar_exit};
+ghost use Rattle.execution.specs.Intrabar.{fired, first_of, long_exit, short_exit, intrabar_exit};
 ghost use Rattle.execution.specs.Intrabar.{breached, liquidated, or_liquidated, closed_by, apply_intrabar_exits};
 
-use portfolio::Closed;
 use crate::costs;
 use crate::terms::{Risk, Terms};
-use portfolio::{Candle, LIQUIDATION, Portfolio, STOP_LOSS, TAKE_PROFIT, TRAILING_STOP};
+use portfolio::{Candle, Closed, LIQUIDATION, Portfolio, STOP_LOSS, TAKE_PROFIT, TRAILING_STOP};
 
-// What a bar's range touched: the fill price and the reason.
+// A level that a bar's range touched: the fill price and the reason.
 #[derive(Clone, Copy)]
-pub enum Trigger {
-    Untouched,
-    At(f64, u64),
+pub struct Trigger {
+    pub price: f64,
+    pub reason: u64,
 }
 
 // The most favourable price since the entry, this bar counted.
@@ -96,17 +95,6 @@ fn fired(price: Option<f64>, reason: u64) -> Option<Trigger>
     }
 }
 
-// The first of two that fired.
-#[tactic(auto, unfolding(crate::specs::Intrabar::or_else))]
-fn or_else(first: Option<Trigger>, second: Option<Trigger>) -> Option<Trigger>
-    ensures { result ≡ or_else first second }
-{
-    match first {
-        Some(Trigger { price, reason }) => Some(Trigger { price, reason }),
-        None => second,
-    }
-}
-
 // The stop is taken to be hit before the trailing stop, and that before the target.
 #[tactic(auto, unfolding(crate::specs::Intrabar::first_of))]
 fn first_of(stop: Option<f64>, trail: Option<f64>, take: Option<f64>) -> Option<Trigger>
@@ -115,7 +103,7 @@ fn first_of(stop: Option<f64>, trail: Option<f64>, take: Option<f64>) -> Option<
     let stopped = fired(stop, STOP_LOSS);
     let trailed = fired(trail, TRAILING_STOP);
     let taken = fired(take, TAKE_PROFIT);
-    or_else(stopped, or_else(trailed, taken))
+    stopped.or(trailed).or(taken)
 }
 
 // A long's stops stand under, its target over. It and a short's differ in each function that they call: one function over both would
@@ -179,7 +167,10 @@ pub fn liquidation(candle: Candle, pf: Portfolio) -> Option<Trigger>
     let p_liq = -pf.cash / pf.qty;
     if p_liq > 0.0 {
         if breached(candle, p_liq, pf.is_long()) {
-            return Some(Trigger { price: p_liq, reason: LIQUIDATION });
+            return Some(Trigger {
+                price: p_liq,
+                reason: LIQUIDATION,
+            });
         }
         return None;
     }

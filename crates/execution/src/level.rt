@@ -2,6 +2,7 @@
 ghost use Rattle.std.specs.Prelude.{◌≡◌};
 ghost use Rattle.execution.specs.Level.{level_from, entry_trigger, fee_bps, reached_below, reached_above, no_dearer_than, no_cheaper_than};
 ghost use Rattle.execution.specs.Level.{long_fill, short_fill, level_fill};
+
 use portfolio::Candle;
 
 #[derive(Clone, Copy)]

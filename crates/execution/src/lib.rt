@@ -6,7 +6,6 @@ pub mod fills;
 pub mod intrabar;
 pub mod level;
 pub mod lots;
-pub mod optional;
 pub mod size;
 pub mod terms;
 pub mod volatility;

@@ -1,6 +1,7 @@
 // `size`: the quantity of an entry, without its sign.
 ghost use Rattle.std.specs.Prelude.{◌≡◌};
 ghost use Rattle.execution.specs.Size.{size, wanted, by_risk, by_volatility, capped, max_notional, at_most};
+
 use crate::terms::{Risk, Sizing};
 
 // The quantity of an entry at `price` with `equity` to spend; absent where there is nothing to order.

@@ -6,6 +6,7 @@ ghost use Rattle.rows.specs.History.{history_of};
 ghost use Rattle.rows.specs.Ring.{ring_of};
 ghost use Rattle.execution.specs.Volatility.{close_at, closes, simple_return, returns, if_positive, realized_vol};
 ghost use Rattle.execution.specs.Tally.{term_of, tally_from};
+
 use rows::ring;
 
 // What a pass adds up: the returns, or how far each is from a mean, squared.

@@ -3,9 +3,9 @@ use Rattle.std.specs.Prelude.{ℕ, ◌≡◌, List, Err, Ok, Result}
 use Rattle.words.specs.{Words.overwrite}
 use Rattle.records.specs.{declared.settings.Settings.Settings}
 use Rattle.images.specs.{Reading.state_in, Reading.window_in, Refused.restore_judged, Refused.left_by}
+use Rattle.records.specs.{declared.state.State.State}
 use Rattle.refusals.specs.{Lines.Verdict}
 use Rattle.words.specs.{declared.refusal.Refusal.Refusal}
-use Rattle.records.specs.{declared.state.State.State}
 
 -- The paper's values for each case of the answer.
 unfoldable pub restored_by : Verdict → List ℕ → Result State Refusal

@@ -130,24 +130,23 @@ fn rows_fine(image: &[u8]) -> bool
 fn judge_image(image: &[u8]) -> Verdict
     ensures { result ≡ judged (image_lines image.now) }
 {
-    let torn = Refusal::Image;
     if !shape_fine(image) {
-        return Err(torn);
+        return Err(Refusal::Image);
     }
     if !numbers_fine(image) {
-        return Err(torn);
+        return Err(Refusal::Image);
     }
     if !unused_zero(image) {
-        return Err(torn);
+        return Err(Refusal::Image);
     }
     if byte(image, layout::SPARE) != 0 {
-        return Err(torn);
+        return Err(Refusal::Image);
     }
     if !zero_at(image, layout::SPARE_TAIL, layout::SPARE_TAIL_BYTES) {
-        return Err(torn);
+        return Err(Refusal::Image);
     }
     if !rows_fine(image) {
-        return Err(torn);
+        return Err(Refusal::Image);
     }
     Ok(())
 }
@@ -156,23 +155,16 @@ fn judge_image(image: &[u8]) -> Verdict
 fn judge_same(s: Settings, image: &[u8]) -> Verdict
     ensures { result ≡ judged (same_lines s image.now) }
 {
-    let below = Ok(());
-    let below = line(byte(image, layout::SLOTS) as usize == s.slots, Refusal::Other, below);
-    line(read16(image, layout::DEPTH) == s.depth, Refusal::Other, below)
+    line(read16(image, layout::DEPTH) == s.depth, Refusal::Other)?;
+    line(byte(image, layout::SLOTS) as usize == s.slots, Refusal::Other)
 }
 
 // All of it.
 pub(crate) fn judge_restore(s: Settings, image: &[u8], rows: &[u64]) -> Verdict
     ensures { result ≡ restore_judged s image.now rows.now }
 {
-    if let Err(refusal) = judge_room(s, rows) {
-        return Err(refusal);
-    }
-    if let Err(refusal) = judge_settings(s) {
-        return Err(refusal);
-    }
-    if let Err(refusal) = judge_image(image) {
-        return Err(refusal);
-    }
+    judge_room(s, rows)?;
+    judge_settings(s)?;
+    judge_image(image)?;
     judge_same(s, image)
 }

@@ -1,6 +1,6 @@
 // What each case comes to.
 use crate::cases;
-use execution::fills::Entry;
+use execution::fills::{Entry};
 use execution::intrabar::Trigger;
 use execution::terms::Slippage;
 use execution::{costs, fills, intrabar, size};

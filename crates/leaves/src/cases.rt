@@ -105,7 +105,7 @@ pub(crate) fn side(case: &[u64], base: usize) -> Side {
     Side::Long
 }
 
-pub(crate) fn funding(case: &[u64], base: usize) -> Funding {
+pub(crate) fn funding(case: &[u64], base: usize) -> Option<Funding> {
     if flag(case, base, 0) {
         return Some(Funding { mark: float(case, base, 1), rate: float(case, base, 2) });
     }

@@ -1,7 +1,7 @@
 // The words of the answers.
 use portfolio::Closed;
 use crate::cases;
-use execution::fills::Entry;
+use execution::fills::{Entry};
 use execution::intrabar::Trigger;
 use portfolio::{Portfolio, Trade};
 

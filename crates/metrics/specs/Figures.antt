@@ -36,7 +36,7 @@ outcome (Err refusal) = refuses refusal
 
 -- "13 | .. a row, bar or trade list is not whole records .. | 0"
 abbrev pub not_whole : Refusal
-not_whole = record { number = 13; place = 0 }
+not_whole = Refusal.Records
 
 unfoldable pub computed : Float → List ℕ → List ℕ → Outcome Metrics
 computed initial equity trades =

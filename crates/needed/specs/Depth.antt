@@ -4,10 +4,9 @@ use Rattle.words.specs.{Limits.most_reach}
 use Rattle.table.specs.{Depth.depth_of}
 use Rattle.table.specs.{Depth.row_bytes}
 use Rattle.words.specs.{declared.refusal.Refusal.Refusal}
-use Rattle.table.specs.{declared.answer.Accepted.Accepted}
 use Rattle.needed.specs.{Outcome.needs}
+use Rattle.table.specs.{declared.answer.Accepted.Accepted}
 use Rattle.needed.specs.{declared.depth.Needs.Needs}
-use Rattle.words.specs.declared.refusal.Refusal.TheVariants as Refusal
 
 -- "12: .. lookback above 4,095": the lookback is setting 7.
 unfoldable pub depth_answer : Result Accepted Refusal → List ℕ → ℕ → Result Needs Refusal

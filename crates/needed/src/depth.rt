@@ -3,12 +3,20 @@ ghost use Rattle.std.specs.Prelude.{◌≡◌, ◌<◌};
 ghost use Rattle.table.specs.Checked.{checked};
 ghost use Rattle.table.specs.Depth.{row_bytes};
 ghost use Rattle.needed.specs.Depth.{depth_answer};
-use crate::depth::Needs;
+
 use table::answer::Accepted;
 use table::check;
 use table::header::slots;
 use words::limits::MOST_REACH;
 use words::refusal::Refusal;
+
+// The rows that a window has to have, the bytes of a row, and of all of them.
+#[derive(Clone, Copy)]
+pub struct Needs {
+    pub rows: u64,
+    pub row: u64,
+    pub window: u64,
+}
 
 // The number of that setting.
 pub const SETTING_LOOKBACK: u64 = 7;
@@ -34,7 +42,11 @@ pub fn depth(t: &[u8], lookback: u64) -> Result<Needs, Refusal>
             }
             let needed = rows.max(lookback + 1);
             let row = row_bytes(t);
-            Ok(Needs { rows: needed, row, window: needed * row })
+            Ok(Needs {
+                rows: needed,
+                row,
+                window: needed * row,
+            })
         }
     }
 }

@@ -3,8 +3,8 @@ ghost use Rattle.std.specs.Prelude.{◌≡◌, length};
 ghost use Rattle.table.specs.Checked.{checked};
 ghost use Rattle.table.specs.Silent.{silent_tests, silent_answer, list_after_answer};
 
-use words::refusal::Refusal;
 use table::silent::silent_nodes;
+use words::refusal::Refusal;
 
 // The node numbers of the tests that fall silent over `d` rows, in table order, into the list, which may be longer.
 pub fn silent_tests(t: &[u8], d: u64, list: &mut [u64]) -> Result<usize, Refusal>

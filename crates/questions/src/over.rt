@@ -18,12 +18,12 @@ fn judge_over(slots: usize, rows: &[u64], positions: &[u64], lines: usize, count
     ensures { result ≡ judged (over_lines slots rows.now positions.now lines counts) }
 {
     let n = positions.len() / POSITION_WORDS;
-    let below = line(all_right(positions, n), Refusal::Records, Ok(()));
-    let below = line(n <= rows::row_count(rows, slots), Refusal::Records, below);
-    let below = line(positions.len() % POSITION_WORDS == 0, Refusal::Records, below);
-    let below = line(rows::are_whole(rows, slots), Refusal::Records, below);
-    let below = line(n <= counts, Refusal::Room(COUNTS_ROOM), below);
-    line(n <= lines / PLACE_WORDS, Refusal::Room(LINES_ROOM), below)
+    line(n <= lines / PLACE_WORDS, Refusal::Room(LINES_ROOM))?;
+    line(n <= counts, Refusal::Room(COUNTS_ROOM))?;
+    line(rows::are_whole(rows, slots), Refusal::Records)?;
+    line(positions.len() % POSITION_WORDS == 0, Refusal::Records)?;
+    line(n <= rows::row_count(rows, slots), Refusal::Records)?;
+    line(all_right(positions, n), Refusal::Records)
 }
 
 // Why a tree, by its number, says what it says at each of the newest rows, as many as there are positions, oldest first: the lines of each into its

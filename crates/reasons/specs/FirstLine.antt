@@ -15,7 +15,7 @@ use Rattle.words.specs.{declared.refusal.Refusal.Refusal}
 use Rattle.table.specs.{declared.answer.Accepted.Accepted}
 use Rattle.words.specs.declared.refusal.Refusal.TheVariants as Refusal
 
--- Lines of a tree of so many nodes whose rule answers so: none of an absent tree, which says no; else the first has the answer.
+-- Ok of a tree of so many nodes whose rule answers so: none of an absent tree, which says no; else the first has the answer.
 pub data Leads (nodes : ℕ) (answer : Result Bool Refusal) : List ChainLine → Type 0 where
   absent : nodes ≡ 0 → answer ≡ Ok false → Leads nodes answer []
   leads : (l : ChainLine) (ls : List ChainLine) → 0 < nodes → answer ≡ Ok l.answer → Leads nodes answer (l ∷ ls)

@@ -33,7 +33,7 @@ pub fn candle_of(bar: &[u64]) -> Candle
 }
 
 // The bar's funding, which stands behind its slots.
-pub fn funding_of(bar: &[u64], slots: usize) -> Funding
+pub fn funding_of(bar: &[u64], slots: usize) -> Option<Funding>
     ensures { result ≡ funding_of slots bar.now }
 {
     if words::word_from(bar, words::places::BAR_FUNDED, slots) == 0 {

@@ -42,7 +42,7 @@ fn slots_fine(bar: &[u64], slots: usize) -> bool
 }
 
 // Whether mark and rate are finite, where they are supplied.
-fn funding_fine(funding: Funding) -> bool
+fn funding_fine(funding: Option<Funding>) -> bool
     ensures { result ≡ funding_fine funding }
 {
     match funding {

@@ -5,7 +5,7 @@ ghost use Rattle.records.specs.Lent.{rooms};
 ghost use Rattle.refusals.specs.Lines.{judged};
 ghost use Rattle.refusals.specs.Day.{whole_for, day_lines, next_lines};
 
-use crate::verdict::{Verdict, first_bad};
+use crate::verdict::Verdict;
 use crate::{bar, rooms, setting};
 use records::settings::Settings;
 use records::state::{Counts, State};
@@ -42,15 +42,9 @@ pub fn judge_day(
 ) -> Verdict
     ensures { result ≡ judged (day_lines span s t bars.now (rooms rows.now equity.now trades.now)) }
 {
-    if let Err(refusal) = rooms::judge_room(s, rows) {
-        return Err(refusal);
-    }
-    if let Err(refusal) = setting::judge_settings(s) {
-        return Err(refusal);
-    }
-    if let Err(refusal) = rooms::judge_state(s, t, rows, equity, trades) {
-        return Err(refusal);
-    }
+    rooms::judge_room(s, rows)?;
+    setting::judge_settings(s)?;
+    rooms::judge_state(s, t, rows, equity, trades)?;
     if are_for(span, bars, s.slots) {
         return Ok(());
     }
@@ -64,7 +58,6 @@ pub fn judge_next(slots: usize, n: Counts, bar: &[u64], equity: &[u64], trades: 
     if !rooms::counts_fine(n) {
         return Err(Refusal::Records);
     }
-    let fourteen = rooms::judge_place(n, equity, trades);
-    let eleven = bar::judge_bar(slots, bar, n.bars_seen);
-    first_bad(fourteen, eleven)
+    rooms::judge_place(n, equity, trades)?;
+    bar::judge_bar(slots, bar, n.bars_seen)
 }

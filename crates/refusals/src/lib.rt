@@ -15,14 +15,14 @@ ghost use Rattle.refusals.specs.Judgement.{finish_judged};
 
 use records::settings::Settings;
 use records::state::State;
-use verdict::{Verdict, first_bad};
+use verdict::Verdict;
 
 // Whether a run can be finished.
 pub fn judge_finish(s: Settings, t: State, rows: &[u64], equity: &[u64], trades: &[u64]) -> Verdict
     ensures { result ≡ finish_judged s t (rooms rows.now equity.now trades.now) }
 {
-    let below = rooms::judge_close(t, trades);
-    let below = first_bad(rooms::judge_state(s, t, rows, equity, trades), below);
-    let below = first_bad(setting::judge_settings(s), below);
-    first_bad(rooms::judge_room(s, rows), below)
+    rooms::judge_room(s, rows)?;
+    setting::judge_settings(s)?;
+    rooms::judge_state(s, t, rows, equity, trades)?;
+    rooms::judge_close(t, trades)
 }

@@ -39,14 +39,8 @@ fn judge_list(slots: usize, depth: usize, steps: &[u8], list: u64) -> Verdict
 pub fn judge_lists<'a>(slots: usize, depth: usize, trees: Lists<'a>) -> Verdict
     ensures { result ≡ judged (list_lines slots depth (lists_of trees.entry)) }
 {
-    if let Err(refusal) = judge_list(slots, depth, trees.entry, 0) {
-        return Err(refusal);
-    }
-    if let Err(refusal) = judge_list(slots, depth, trees.exit, 1) {
-        return Err(refusal);
-    }
-    if let Err(refusal) = judge_list(slots, depth, trees.short_entry, 2) {
-        return Err(refusal);
-    }
+    judge_list(slots, depth, trees.entry, 0)?;
+    judge_list(slots, depth, trees.exit, 1)?;
+    judge_list(slots, depth, trees.short_entry, 2)?;
     judge_list(slots, depth, trees.short_exit, 3)
 }

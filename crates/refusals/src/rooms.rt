@@ -110,5 +110,5 @@ pub fn judge_close(t: State, trades: &[u64]) -> Verdict
 {
     let n = t.counts;
     let free = n.trades < trades.len() / TRADE_WORDS;
-    line(!to_close(t) | free, Refusal::Full, Ok(()))
+    line(!to_close(t) | free, Refusal::Full)
 }

@@ -177,18 +177,12 @@ fn judge_terms(t: Terms) -> Verdict
     let sizing = t.sizing;
     let slippage = t.slippage;
     let risk = t.risk;
-    if let Err(refusal) = judge_sizing(sizing) {
-        return Err(refusal);
-    }
+    judge_sizing(sizing)?;
     if !floats::is_finite(t.taker_bps) {
         return Err(Refusal::Setting(8));
     }
-    if let Err(refusal) = judge_slippage(slippage) {
-        return Err(refusal);
-    }
-    if let Err(refusal) = judge_risk(sizing, risk) {
-        return Err(refusal);
-    }
+    judge_slippage(slippage)?;
+    judge_risk(sizing, risk)?;
     if !floats::is_finite(t.max_participation) {
         return Err(Refusal::Setting(19));
     }
@@ -211,8 +205,6 @@ pub fn judge_settings(s: Settings) -> Verdict
     if !floats::is_finite(s.capital) {
         return Err(Refusal::Setting(2));
     }
-    if let Err(refusal) = judge_terms(terms) {
-        return Err(refusal);
-    }
+    judge_terms(terms)?;
     entries::judge_entries(placing, terms.lot)
 }

@@ -33,18 +33,19 @@ pub fn bit_of(b: bool) -> u64
 }
 
 // 10: settings and state have their words.
+#[tactic(auto, unfolding(refusals::specs::Lines::judged, crate::specs::Call::word_lines))]
 pub fn judge_words(settings: &[u64], state: &[u64]) -> Verdict
     ensures { result ≡ judged (word_lines settings.now state.now) }
 {
-    let below = Ok(());
-    let below = line(STATE_WORDS <= state.len(), Refusal::Room(STATE_ROOM), below);
-    line(SETTING_WORDS <= settings.len(), Refusal::Room(SETTINGS_ROOM), below)
+    line(SETTING_WORDS <= settings.len(), Refusal::Room(SETTINGS_ROOM))?;
+    line(STATE_WORDS <= state.len(), Refusal::Room(STATE_ROOM))
 }
 
 // 10: the metrics have their words.
+#[tactic(auto, unfolding(refusals::specs::Lines::judged, crate::specs::Call::metric_lines))]
 pub fn judge_metrics(metrics: &[u64]) -> Verdict
     ensures { result ≡ judged (metric_lines metrics.now) }
 {
     let enough = METRIC_WORDS <= metrics.len();
-    line(enough, Refusal::Room(METRICS_ROOM), Ok(()))
+    line(enough, Refusal::Room(METRICS_ROOM))
 }

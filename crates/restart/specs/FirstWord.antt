@@ -49,10 +49,10 @@ data FineOr (r : Refusal) (v : Verdict) : Type 0 where
   passes : v ≡ Ok tt → FineOr r v
   fails : v ≡ Err r → FineOr r v
 
-one_line : (ok : Bool) (n p : ℕ) (ls : List Line) → FineOr (refusal n p) (judged ls) → FineOr (refusal n p) (judged (line ok n p ∷ ls))
+one_line : (ok : Bool) (why : Refusal) (ls : List Line) → FineOr why (judged ls) → FineOr why (judged (line ok why ∷ ls))
 unfolding judged
-one_line true n p ls h = h
-one_line false n p ls h = fails refl
+one_line true why ls h = h
+one_line false why ls h = fails refl
 
 none_left : (r : Refusal) → FineOr r (judged [])
 unfolding judged
@@ -61,11 +61,11 @@ none_left r = passes refl
 image_says : (x : List ℕ) → FineOr Refusal.Image (judged (image_lines x))
 unfolding image_lines
 image_says x =
-    one_line _ _ _ _ (one_line _ _ _ _ (one_line _ _ _ _ (one_line _ _ _ _ (one_line _ _ _ _ (one_line _ _ _ _ (none_left _))))))
+    one_line _ _ _ (one_line _ _ _ (one_line _ _ _ (one_line _ _ _ (one_line _ _ _ (one_line _ _ _ (none_left _))))))
 
 same_says : (s : Settings) (x : List ℕ) → FineOr Refusal.Other (judged (same_lines s x))
 unfolding same_lines
-same_says s x = one_line _ _ _ _ (one_line _ _ _ _ (none_left _))
+same_says s x = one_line _ _ _ (one_line _ _ _ (none_left _))
 
 -- ---- the first word
 

@@ -2,7 +2,6 @@
 -- Assumes nothing.
 use Rattle.std.specs.Prelude.{◌≡◌, true, false, List, ℕ, ◌≤◌, length, Err}
 use Rattle.words.specs.Prelude.{le-ltb}
-
 use Rattle.table.specs.{Header.version, Header.mark_right, Header.version_right, Header.header_refusal, Kinds.kind_of}
 use Rattle.table.specs.{Kinds.extremum, Laws.Kinds.extreme_since_lem, Nodes.node_at, Nodes.kind_right, Nodes.own_right, Nodes.node_right, Checked.or_header}
 use Rattle.table.specs.{Checked.checked_up_to, Checked.checked}

@@ -10,7 +10,6 @@ use Rattle.rules.specs.{Meaning.says, Flat.flat_condition_at, Answers.state_righ
 use Rattle.rules.specs.{Answers.after_check, Answers.answered, Laws.Answers.tree_of_four, Laws.Answers.flat_says}
 use Rattle.table.specs.{declared.answer.Accepted.Accepted}
 use Rattle.table.specs.{Outcome.accepts}
-use Rattle.words.specs.declared.refusal.Refusal.TheVariants as Refusal
 
 module _ (t : List ℕ) (tree : Tree) (rows : List ℕ) (s : PositionState) where
   pub refused : (a : Result Accepted Refusal) (why : Refusal) → a ≡ checked t → a ≡ Err why → Err why ≡ answered t tree rows s

@@ -7,7 +7,6 @@ use Rattle.rules.specs.{declared.position.PositionState.PositionState}
 use Rattle.rules.specs.{Meaning.says}
 use Rattle.words.specs.{declared.refusal.Refusal.Refusal}
 use Rattle.table.specs.{declared.answer.Accepted.Accepted}
-use Rattle.words.specs.declared.refusal.Refusal.TheVariants as Refusal
 
 -- "13: counts in the state exceed .. 4,294,967,295 .. or an entry bar is not below the bars seen": this is where neither.
 abbrev pub entry_below : ℕ → Option ℕ → Bool

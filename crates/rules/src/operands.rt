@@ -1,6 +1,6 @@
 // An operand at a bar, over the flat table: `eval_operand` and `binary` of the Rust, which call each other. `left` is how
 // many levels of nesting are left, the operand's own counted; it falls with each level, so the two end on any bytes.
-ghost use Rattle.std.specs.Prelude.{◌≡◌, ℕ, ◌-◌, ◌≤◌, ◌<◌, Some};
+ghost use Rattle.std.specs.Prelude.{◌≡◌, ℕ, ◌-◌, ◌≤◌, ◌<◌, Float, Option, Some};
 ghost use Rattle.rows.specs.History.{history_of};
 ghost use Rattle.rules.specs.Values.{price_of, slot_of, combined};
 ghost use Rattle.rules.specs.Meaning.{series_at, extreme_over, extreme_at, value};
@@ -103,7 +103,14 @@ fn extreme_over(
 }
 
 // Highest or Lowest at a bar that is there: over that bar and the n - 1 before it.
-fn extreme_of_bar(kind: u8, rows: &[u64], slots: usize, over: Series, n: u64, bar: usize) -> Option<f64>
+fn extreme_of_bar(
+    kind: u8,
+    rows: &[u64],
+    slots: usize,
+    over: Series,
+    n: u64,
+    bar: usize,
+) -> Option<f64>
     requires { bar < (history_of slots rows.now).rows }
     ensures { result ≡ extreme_at (history_of slots rows.now) kind over n bar }
 {

@@ -155,7 +155,13 @@ pub fn compared(kind: u8, a: Option<f64>, b: Option<f64>) -> bool
 }
 
 // A cross of a and b, now and one bar before: the Rust's `cross`.
-pub fn crossed(kind: u8, a: Option<f64>, b: Option<f64>, a_before: Option<f64>, b_before: Option<f64>) -> bool
+pub fn crossed(
+    kind: u8,
+    a: Option<f64>,
+    b: Option<f64>,
+    a_before: Option<f64>,
+    b_before: Option<f64>,
+) -> bool
     ensures { result ≡ Values.crossed kind a b a_before b_before }
 {
     if kind == kinds::CROSS_ABOVE {

@@ -19,11 +19,11 @@ use Rattle.runs.specs.{AsMeant.figures, Laws.Finishes.close_place, Laws.LastPoin
 use Rattle.std.specs.Float.Ieee as Ieee
 use Rattle.words.specs.Limits as Limits
 use Rattle.floats.specs.Floats as Floats
-use Rattle.engine.specs.{Ended.ended}
+use Rattle.engine.specs.{Ended.at_end}
 use Rattle.refusals.specs.{Lines.Verdict}
 
 -- what a finish that is not refused gives
-finish_gives : (v : Verdict) (t : State) (m : Rooms) (done : With Ended) (u : State) (f : Metrics) → (concluded v t m done).result ≡ ended u f
+finish_gives : (v : Verdict) (t : State) (m : Rooms) (done : With Ended) (u : State) (f : Metrics) → (concluded v t m done).result ≡ at_end u f
     → (v ≡ Ok tt) × (u ≡ done.result.state) × (f ≡ done.result.metrics) × ((concluded v t m done).rooms ≡ done.rooms)
 unfolding concluded
 finish_gives (Err why) t m done u f e = absurd (let z : ◌≡◌ {A = ℕ} 0 1 = cc in omega arith)
@@ -136,7 +136,7 @@ pub record Settled (s : Settings) (u : State) (n : Rooms) (f : Metrics) : Type 0
 pub nothing_missing : (s : Settings) (ls : Lists) (m : Rooms) (bars : List (List ℕ)) (u : State) (f : Metrics)
     → let r = run_over s ls (fresh_state s) m bars in
     let d = finish_of s r.state r.rooms in
-    d.result ≡ ended u f → Settled s u d.rooms f
+    d.result ≡ at_end u f → Settled s u d.rooms f
 unfolding finish_of
 nothing_missing s ls m bars u f e =
     let r : Run = run_over s ls (fresh_state s) m bars in
@@ -220,7 +220,7 @@ judged_again s t m fine few = go (to_close t) refl
 -- A SECOND FINISH changes nothing and gives the same figures, where fewer than 4,294,967,295 trades were counted before the first.
 pub finish_twice : (s : Settings) (t : State) (m : Rooms) (u : State) (f : Metrics) → t.counts.trades < Limits.most_count
     → let d = finish_of s t m in
-    d.result ≡ ended u f → finish_of s u d.rooms ≡ record { result = ended u f; rooms = d.rooms }
+    d.result ≡ at_end u f → finish_of s u d.rooms ≡ record { result = at_end u f; rooms = d.rooms }
 unfolding finish_of
 finish_twice s t m u f few e =
     let d = finish_gives (finish_judged s t m) t m (ended s t m) u f e in

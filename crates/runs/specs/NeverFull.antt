@@ -26,7 +26,7 @@ not_fourteen (l ∷ ls) a why e n =
     by_line (eqb (number_of l.why) 14) l.ok (judged ls) refl both.0 (λ h. not_fourteen ls both.1 why h n) e
   where
     by_line : (is ok : Bool) (v : Verdict) → eqb (number_of l.why) 14 ≡ is → (not is || ok) ≡ true → (v ≡ Err why → ⊥)
-        → cond ok v (Err (refusal (number_of l.why) (place_of l.why))) ≡ Err why → ⊥
+        → cond ok v (Err l.why) ≡ Err why → ⊥
     by_line is true v h a below e = below e
     by_line false false v h a below e = let same : (number_of l.why) ≡ (number_of why) = cc in eqb-false (number_of l.why) 14 h (same ∙ n)
     by_line true false v h a below e = let z : ◌≡◌ {A = ℕ} 0 1 = cc in omega arith

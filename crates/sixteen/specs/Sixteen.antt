@@ -90,16 +90,16 @@ below (l ∷ ls) = ltb (number_of l.why) 16 && below ls
 bad_same : {r q : Refusal} → Err r ≡ Err q → r ≡ q
 bad_same e = cc
 
-by_line : (ok : Bool) (v : Verdict) (n p : ℕ) (r : Refusal) → n < 16 → (v ≡ Err r → number_of r < 16) → cond ok v (Err (refusal n p)) ≡ Err r → number_of r < 16
-by_line true v n p r low rest e = rest e
-by_line false v n p r low rest e = let same : n ≡ (number_of r) = cc in omega arith
+by_line : (ok : Bool) (v : Verdict) (why r : Refusal) → number_of why < 16 → (v ≡ Err r → number_of r < 16) → cond ok v (Err why) ≡ Err r → number_of r < 16
+by_line true v why r low rest e = rest e
+by_line false v why r low rest e = let same : number_of why ≡ number_of r = cc in omega arith
 
 judged-below : (ls : List Line) (r : Refusal) → below ls ≡ true → judged ls ≡ Err r → number_of r < 16
 unfolding judged below
 judged-below [] r n e = never (sym e)
 judged-below (l ∷ ls) r n e =
     let own = and_true _ _ n in
-    by_line l.ok (judged ls) (number_of l.why) (place_of l.why) r (ltb-true _ _ own.0) (judged-below ls r own.1) e
+    by_line l.ok (judged ls) l.why r (ltb-true _ _ own.0) (judged-below ls r own.1) e
 
 lines_below : (s : Settings) (t : State) (bar : List ℕ) (m : Rooms) (ls : Lists) → below (step_lines s t bar m ls) ≡ true
 unfolding below step_lines run_lines room_lines setting_lines term_lines entry_lines sizing_lines slippage_lines risk_lines state_lines place_lines bar_lines list_lines

@@ -5,8 +5,8 @@ use Rattle.records.specs.{Lent.Rooms, Lent.Lists, Settings.settings_of, StateWor
 use Rattle.refusals.specs.{Lines.Line, Lines.judged, Rooms.room_lines}
 use Rattle.engine.specs.{Step.step_answer}
 use Rattle.replies.specs.{Call.Call, Call.call_of, Call.unless_bad, Call.word_lines}
-use Rattle.words.specs.{declared.refusal.Refusal.Refusal}
 use Rattle.records.specs.{declared.state.State.State}
+use Rattle.words.specs.{declared.refusal.Refusal.Refusal}
 
 -- "Under one number the lowest place is given": the room of rows is number 0, and so comes before those that only a C call has.
 -- A setting past the end of the words reads as 0.

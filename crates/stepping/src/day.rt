@@ -22,9 +22,7 @@ fn judge_lent(span: Span, settings: &[u64], state: &[u64], bars: &[u64], rows: &
     if engine::day::no_bars(span, bars) {
         return judge_words(settings, state);
     }
-    if let Err(refusal) = refusals::rooms::judge_room(settings_of(settings), rows) {
-        return Err(refusal);
-    }
+    refusals::rooms::judge_room(settings_of(settings), rows)?;
     judge_words(settings, state)
 }
 

@@ -16,10 +16,9 @@ use Rattle.steps.specs.{Bytes.bytes_of, Bytes.ops_of, Machine.visits_of, Laws.En
 use Rattle.steps.specs.{Translating.steps_of, Translating.room_for, Translating.writes_or, Translating.after_table, Translating.translates}
 use Rattle.steps.specs.{Translating.room_after, Translating.room_left, Running.runs, Window.translated_well_formed, Window.window-runs, AnyList.window_any}
 use Rattle.words.specs.{declared.refusal.Refusal.Refusal}
+use Rattle.needed.specs.{declared.depth.Needs.Needs, Outcome.needs}
 use Rattle.table.specs.{declared.answer.Accepted.Accepted}
-use Rattle.needed.specs.{Outcome.needs}
 use Rattle.table.specs.{Outcome.accepts}
-use Rattle.words.specs.declared.refusal.Refusal.TheVariants as Refusal
 
 -- ---- the start of the room is what was written
 
@@ -54,7 +53,10 @@ module _ (t : List ℕ) (lookback D row window : ℕ) where
   unfolding depth_answer
   told (Err why) far e f d = absurd (let z : ◌≡◌ {A = ℕ} 0 1 = cc in omega arith)
   told (Ok accepted) true e f d = absurd (let z : ◌≡◌ {A = ℕ} 0 1 = cc (f, d) in omega arith)
-  told (Ok accepted) false e f d = record { nodes = accepted.nodes; rows = accepted.rows; accepted = e; near = ltb-false most_reach lookback f; is = cc (f, d) }
+  told (Ok accepted) false e f d =
+      let same : ◌≡◌ {A = Needs} (record { rows = D; row = row; window = window })
+      (record { rows = depth_of t lookback; row = row_bytes t; window = depth_of t lookback * row_bytes t }) = cc (f, d) in
+      record { nodes = accepted.nodes; rows = accepted.rows; accepted = e; near = ltb-false most_reach lookback f; is = ap (λ (n : Needs). n.rows) same }
 
   pub deep : depth_answer (checked t) t lookback ≡ needs D row window → Deep t lookback D
   deep = told (checked t) (ltb most_reach lookback) refl refl

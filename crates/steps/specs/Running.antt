@@ -6,7 +6,6 @@ use Rattle.rules.specs.{declared.position.PositionState.PositionState, Answers.s
 use Rattle.steps.specs.{declared.machine.Ran.Ran}
 use Rattle.steps.specs.{Bytes.ops_of, Machine.ran_over, WellFormed.formed}
 use Rattle.words.specs.{declared.refusal.Refusal.Refusal}
-use Rattle.words.specs.declared.refusal.Refusal.TheVariants as Refusal
 
 -- "15: a step list is not well formed: 1,024 times the list .. plus its lowest bad step". Decided: a list that is run by itself is list 0.
 unfoldable pub ran_if : Result (Unit {0}) ℕ → Ran → Result Ran Refusal

@@ -6,7 +6,6 @@ use Rattle.steps.specs.{declared.step.Op.Op}
 use Rattle.steps.specs.{Bytes.bytes_of, Translation.code_of}
 use Rattle.words.specs.{declared.refusal.Refusal.Refusal}
 use Rattle.table.specs.{declared.answer.Accepted.Accepted}
-use Rattle.words.specs.declared.refusal.Refusal.TheVariants as Refusal
 
 -- "Each tree is translated into its own lent room": its steps, none where the tree is absent.
 unfoldable pub steps_of : List ℕ → ℕ → List Op

@@ -1,5 +1,5 @@
 // What a step does that neither takes nor gives a value: it sets, turns or reads the answer, or jumps.
-ghost use Rattle.std.specs.Prelude.{◌≡◌, false, cond, not, ◌&&◌, ◌+◌, ◌<◌, ◌≤◌, min, ltb, leb};
+ghost use Rattle.std.specs.Prelude.{◌≡◌, false, cond, not, ◌&&◌, ◌+◌, ◌<◌, ◌≤◌, min, ltb, leb, Float, Option};
 ghost use Rattle.rows.specs.History.{History};
 ghost use Rattle.rules.specs.Values as Values;
 ghost use Rattle.steps.specs.Bytes.{op_of, is_operation, is_test_step};

@@ -1,6 +1,6 @@
 // Leaves: what a step gives that takes no value. Most are read from a row that is there and that has what they name: these are told at
 // once, with no test of where a word lies, and the newest row's place is told beforehand.
-ghost use Rattle.std.specs.Prelude.{◌≡◌, Bool, true, ◌+◌, ◌-◌, ◌*◌, ◌<◌, ◌≤◌, length, Some};
+ghost use Rattle.std.specs.Prelude.{◌≡◌, Bool, true, ◌+◌, ◌-◌, ◌*◌, ◌<◌, ◌≤◌, length, Some, Float, Option};
 ghost use Rattle.floats.specs.Floats.{float_of};
 ghost use Rattle.rows.specs.History.{History, history_of};
 ghost use Rattle.rows.specs.Ring.{ring_place, ring_of};
@@ -56,16 +56,19 @@ fn ref_ago(rows: &[u64], slots: usize, held: usize, first: usize, slot: u8, n: u
 }
 
 // A price, n rows back.
-fn price_ago(rows: &[u64], slots: usize, held: usize, first: usize, selector: u8, n: u64) -> Option<f64>
+fn price_ago(
+    rows: &[u64],
+    slots: usize,
+    held: usize,
+    first: usize,
+    selector: u8,
+    n: u64,
+) -> Option<f64>
     requires { (held ≡ (history_of slots rows.now).rows) × (first ≤ held) }
     ensures { result ≡ ago (ring_of slots first rows.now) (price selector) n }
 {
     if n < held as u64 {
-        return Some(values::price_at(
-            rows,
-            row_ago(rows, slots, held, first, n),
-            selector,
-        ));
+        return Some(values::price_at(rows, row_ago(rows, slots, held, first, n), selector));
     }
     None
 }

@@ -1,6 +1,6 @@
 // The step machine: what one step does, and the run of a whole list. "a value not there counts as missing", and every value is kept:
 // a list is run with a few places for values, and the rare list that needs more is run again with more, at last one for each of its steps.
-ghost use Rattle.std.specs.Prelude.{◌≡◌, Bool, true, cond, [], ◌+◌, ◌-◌, ◌<◌, ◌≤◌, ltb, length};
+ghost use Rattle.std.specs.Prelude.{◌≡◌, Bool, true, cond, [], ◌+◌, ◌-◌, ◌<◌, ◌≤◌, ltb, length, Float, Option};
 ghost use Rattle.rows.specs.History.{history_of};
 ghost use Rattle.rows.specs.Ring.{ring_of, start_within};
 ghost use Rattle.table.specs.Named as Named;

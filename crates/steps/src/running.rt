@@ -15,7 +15,13 @@ pub const SETTING_SLOTS: u64 = 0;
 pub const SETTING_DEPTH: u64 = 1;
 
 // Runs a list over rows of `slots` slots, with a window of `depth` rows.
-pub fn run(list: &[u8], rows: &[u64], slots: usize, depth: usize, s: PositionState) -> Result<Ran, Refusal>
+pub fn run(
+    list: &[u8],
+    rows: &[u64],
+    slots: usize,
+    depth: usize,
+    s: PositionState,
+) -> Result<Ran, Refusal>
     ensures { result ≡ runs list.now rows.now slots depth s }
 {
     if MOST_SLOTS < slots {

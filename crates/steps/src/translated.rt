@@ -1,2 +1,1 @@
 // What a translation comes to.
-

@@ -46,12 +46,11 @@ pub struct Ridden {
 fn judge_streams(stream: &[u64], a: &[u64], b: &[u64], c: &[u64], d: &[u64]) -> Verdict
     ensures { result ≡ judged (accounts_lines stream.now a.now b.now c.now d.now) }
 {
-    let below = Ok(());
-    let below = line(STATUS_WORDS <= d.len(), Refusal::Room(STATUS_ROOM), below);
-    let below = line(STATUS_WORDS <= c.len(), Refusal::Room(STATUS_ROOM), below);
-    let below = line(STATUS_WORDS <= b.len(), Refusal::Room(STATUS_ROOM), below);
-    let below = line(STATUS_WORDS <= a.len(), Refusal::Room(STATUS_ROOM), below);
-    line(STREAM_WORDS <= stream.len(), Refusal::Room(STREAM_ROOM), below)
+    line(STREAM_WORDS <= stream.len(), Refusal::Room(STREAM_ROOM))?;
+    line(STATUS_WORDS <= a.len(), Refusal::Room(STATUS_ROOM))?;
+    line(STATUS_WORDS <= b.len(), Refusal::Room(STATUS_ROOM))?;
+    line(STATUS_WORDS <= c.len(), Refusal::Room(STATUS_ROOM))?;
+    line(STATUS_WORDS <= d.len(), Refusal::Room(STATUS_ROOM))
 }
 
 // A bar of the stream, as a step of an account over its own part of it.

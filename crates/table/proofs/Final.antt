@@ -2,7 +2,7 @@
 -- Assumes nothing.
 use Rattle.std.specs.Prelude.{Err, None, Option, Result, Some, ℕ}
 use Rattle.words.specs.Prelude.{◌≡◌, refl, sym, ◌∙◌, ap, cond, ⊎_elim, List, ℕ, ◌-◌, ◌≤◌, ◌<◌, arith, eq-zero-or-pos, zero-add, get_or, replicate, ext_get_or, ltb}
-use Rattle.words.specs.Prelude.{lt-ltb, le-ltb, eq-eqb, ne_eqb}
+use Rattle.words.specs.Prelude.{lt-ltb, le-ltb}
 use Rattle.words.specs.{Limits.most_nodes, declared.refusal.Refusal.Refusal}
 use Rattle.table.specs.{Bytes.u16, Header.total, Header.header_refusal, Header.root, Nodes.wrong_node, Checked.or_refused, Checked.or_header, Checked.from9}
 use Rattle.table.specs.{Checked.from8, Checked.from7, Checked.checked_up_to, Ends.ends_for, Ends.end_at, Ends.from, Ends.end_of_node, Ends.ends_all, Ends.Linked}
@@ -11,31 +11,31 @@ use Rattle.table.specs.{Laws.Ends.from_at}
 use Rattle.table.specs.{Laws.Header.header_right}
 use Rattle.table.specs.{declared.answer.Accepted.Accepted}
 use Rattle.table.specs.{Outcome.accepts}
-use Rattle.words.specs.declared.refusal.Refusal.TheVariants as Refusal
 use Rattle.table.proofs.{Linked.end_word}
 
 -- One rule: it is broken, or what is left decides.
-module _ (nr : ℕ) (q : Option ℕ) (x rest : Result Accepted Refusal) (es ends : List ℕ) where
-  pub stage_at : (p : ℕ) → q ≡ Some p → x ≡ Err (refusal nr p) → es ≡ replicate most_nodes 0
-      → (x ≡ or_refused nr q rest) × (es ≡ ends_for (or_refused nr q rest) ends)
+module _ (rule : ℕ → Refusal) (q : Option ℕ) (x rest : Result Accepted Refusal) (es ends : List ℕ) where
+  pub stage_at : (p : ℕ) → q ≡ Some p → x ≡ Err (rule p) → es ≡ replicate most_nodes 0
+      → (x ≡ or_refused rule q rest) × (es ≡ ends_for (or_refused rule q rest) ends)
   unfolding or_refused ends_for
   stage_at p h hx he = rw h (hx, he)
 
-  pub stage_none : q ≡ None → x ≡ rest → es ≡ ends_for rest ends → (x ≡ or_refused nr q rest) × (es ≡ ends_for (or_refused nr q rest) ends)
+  pub stage_none : q ≡ None → x ≡ rest → es ≡ ends_for rest ends → (x ≡ or_refused rule q rest) × (es ≡ ends_for (or_refused rule q rest) ends)
   unfolding or_refused
   stage_none h hx he = rw h (hx, he)
 
-module _ (nr : ℕ) (x rest : Result Accepted Refusal) (es ends : List ℕ) where
-  pub head_at : (nr ≡ 0 → ⊥) → x ≡ Err (refusal nr 0) → es ≡ replicate most_nodes 0 → (x ≡ or_header nr rest) × (es ≡ ends_for (or_header nr rest) ends)
+module _ (header : Option Refusal) (x rest : Result Accepted Refusal) (es ends : List ℕ) where
+  pub head_at : (why : Refusal) → header ≡ Some why → x ≡ Err why → es ≡ replicate most_nodes 0
+      → (x ≡ or_header header rest) × (es ≡ ends_for (or_header header rest) ends)
   unfolding or_header ends_for
-  head_at h hx he = simp (ne_eqb _ _ h) (hx, he)
+  head_at why h hx he = rw h (hx, he)
 
-  pub head_none : nr ≡ 0 → x ≡ rest → es ≡ ends_for rest ends → (x ≡ or_header nr rest) × (es ≡ ends_for (or_header nr rest) ends)
+  pub head_none : header ≡ None → x ≡ rest → es ≡ ends_for rest ends → (x ≡ or_header header rest) × (es ≡ ends_for (or_header header rest) ends)
   unfolding or_header
-  head_none h hx he = simp (eq-eqb _ _ h) (hx, he)
+  head_none h hx he = rw h (hx, he)
 
 pub checked_is : (newest : ℕ) (t : List ℕ)
-    → checked_up_to newest t ≡ or_header (header_refusal newest t) (or_refused 6 (wrong_node t (u16 t 6) 0) (from7 t))
+    → checked_up_to newest t ≡ or_header (header_refusal newest t) (or_refused Refusal.Node (wrong_node t (u16 t 6) 0) (from7 t))
 unfolding checked_up_to from7 from8 from9
 checked_is newest t = refl
 
@@ -50,7 +50,7 @@ unfolding ends_for
 keep_accepted a ends n r ha = rw ha (refl, refl)
 
 -- A header that breaks no rule gives the four trees' places.
-pub head_roots : (newest : ℕ) (t : List ℕ) (roots : Roots) → header_refusal newest t ≡ 0 → roots.exit ≡ root t 1 → roots.short_entry ≡ root t 2
+pub head_roots : (newest : ℕ) (t : List ℕ) (roots : Roots) → header_refusal newest t ≡ None → roots.exit ≡ root t 1 → roots.short_entry ≡ root t 2
     → roots.short_exit ≡ root t 3 → roots.end ≡ total t → AreRoots t roots
 unfolding root
 head_roots newest t roots h ha hb hc he =
@@ -98,27 +98,26 @@ ends_are t ends roots k all l =
     sym (from_at (end_of_node t) 0 most_nodes 0 j (omega (arith, all.long))))
 
 module _ (newest : ℕ) (t : List ℕ) (x : Result Accepted Refusal) (es ends : List ℕ) where
-  right : (x ≡ or_header (header_refusal newest t) (or_refused 6 (wrong_node t (u16 t 6) 0) (from7 t)))
-      × (es ≡ ends_for (or_header (header_refusal newest t) (or_refused 6 (wrong_node t (u16 t 6) 0) (from7 t))) ends)
+  right : (x ≡ or_header (header_refusal newest t) (or_refused Refusal.Node (wrong_node t (u16 t 6) 0) (from7 t)))
+      × (es ≡ ends_for (or_header (header_refusal newest t) (or_refused Refusal.Node (wrong_node t (u16 t 6) 0) (from7 t))) ends)
       → (x ≡ checked_up_to newest t) × (es ≡ ends_for (checked_up_to newest t) ends)
   right h = rw (checked_is newest t) h
 
-  pub one_at : (nr : ℕ) → nr ≡ header_refusal newest t → (nr ≡ 0 → ⊥) → x ≡ Err (refusal nr 0) → es ≡ replicate most_nodes 0
+  pub one_at : (why : Refusal) → header_refusal newest t ≡ Some why → x ≡ Err why → es ≡ replicate most_nodes 0
       → (x ≡ checked_up_to newest t) × (es ≡ ends_for (checked_up_to newest t) ends)
-  one_at nr h some hx he =
-      right (head_at (header_refusal newest t) x _ es ends (λ z. some (h ∙ z)) (hx ∙ ap (λ (n : ℕ). Err (refusal n 0)) h) he)
+  one_at why h hx he = right (head_at (header_refusal newest t) x _ es ends why h hx he)
 
-  module _ (h : header_refusal newest t ≡ 0) (n : ℕ) (all : n ≡ u16 t 6) (q : Option ℕ) (found : q ≡ wrong_node t n 0) where
+  module _ (h : header_refusal newest t ≡ None) (n : ℕ) (all : n ≡ u16 t 6) (q : Option ℕ) (found : q ≡ wrong_node t n 0) where
     place : q ≡ wrong_node t (u16 t 6) 0
     place = found ∙ ap (λ (m : ℕ). wrong_node t m 0) all
 
     pub six_at : (p : ℕ) → q ≡ Some p → x ≡ Err (Refusal.Node p) → es ≡ replicate most_nodes 0
         → (x ≡ checked_up_to newest t) × (es ≡ ends_for (checked_up_to newest t) ends)
     six_at p hp hx he =
-        let g = stage_at 6 (wrong_node t (u16 t 6) 0) x (from7 t) es ends p (sym place ∙ hp) hx he in
+        let g = stage_at Refusal.Node (wrong_node t (u16 t 6) 0) x (from7 t) es ends p (sym place ∙ hp) hx he in
         right (head_none (header_refusal newest t) x _ es ends h g.0 g.1)
 
     pub six_none : q ≡ None → x ≡ from7 t → es ≡ ends_for (from7 t) ends → (x ≡ checked_up_to newest t) × (es ≡ ends_for (checked_up_to newest t) ends)
     six_none hp hx he =
-        let g = stage_none 6 (wrong_node t (u16 t 6) 0) x (from7 t) es ends (sym place ∙ hp) hx he in
+        let g = stage_none Refusal.Node (wrong_node t (u16 t 6) 0) x (from7 t) es ends (sym place ∙ hp) hx he in
         right (head_none (header_refusal newest t) x _ es ends h g.0 g.1)

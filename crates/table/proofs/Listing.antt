@@ -8,7 +8,6 @@ use Rattle.table.specs.{Forest.first_trees, Forest.forest_of, Reach.own_back, Re
 use Rattle.table.specs.{Laws.Accepted.tree_whole, Silent.WholeTrees, Silent.silent_answer, Silent.list_after_answer, Silent.silent_node, Silent.silent_nodes}
 use Rattle.table.specs.{Silent.four_silent, Silent.put_all, Laws.Silent.next_node, Laws.Silent.no_node}
 use Rattle.table.specs.{Outcome.accepts}
-use Rattle.words.specs.declared.refusal.Refusal.TheVariants as Refusal
 
 -- ---- numbers put one after the other
 

@@ -1,6 +1,6 @@
 -- The header, and the rules 1 to 5. Definitions only.
-use Rattle.std.specs.Prelude.{Bool, not, cond, ◌&&◌, List, ℕ, zero, suc, ◌+◌, ◌*◌, length, get_or, ltb, leb, eqb}
-use Rattle.words.specs.{Limits.most_slots, Limits.most_nodes}
+use Rattle.std.specs.Prelude.{Bool, not, cond, ◌&&◌, List, ℕ, zero, suc, ◌+◌, ◌*◌, length, get_or, ltb, leb, eqb, Option, Some, None}
+use Rattle.words.specs.{Limits.most_slots, Limits.most_nodes, declared.refusal.Refusal.Refusal}
 use Rattle.table.specs.{Bytes.u16, declared.header.Form.Form, declared.trees.Tree.Tree, declared.trees.Tree.TheVariants.Entry}
 use Rattle.table.specs.{declared.trees.Tree.TheVariants.Exit, declared.trees.Tree.TheVariants.ShortEntry, declared.trees.Tree.TheVariants.ShortExit}
 
@@ -44,17 +44,17 @@ counts_right t =
     && not (ltb (count t 1) 1)
     && eqb (count t 0 + count t 1 + count t 2 + count t 3) (total t)
 
--- The number of the first of these rules that the table breaks, 0 where it breaks none:
+-- The first of these rules that the table breaks, none where it breaks none:
 -- "1 table under 16 bytes; 2 mark wrong; 3 version not 1; 4 K, total or tree counts against the rules; 5 length not
 -- 16 + 16·total". "a version 1 reader still gives 3" (request 8): 3 is for a version that the reader does not read.
-unfoldable pub header_refusal : ℕ → List ℕ → ℕ
+unfoldable pub header_refusal : ℕ → List ℕ → Option Refusal
 header_refusal newest t =
-    cond (ltb (length t) 16) 1
-    (cond (not (mark_right t)) 2
-    (cond (not (version_right newest t)) 3
-    (cond (not (counts_right t)) 4
-    (cond (not (eqb (length t) (16 + 16 * total t))) 5
-    0))))
+    cond (ltb (length t) 16) (Some Refusal.Size)
+    (cond (not (mark_right t)) (Some Refusal.Mark)
+    (cond (not (version_right newest t)) (Some Refusal.Version)
+    (cond (not (counts_right t)) (Some Refusal.Counts)
+    (cond (not (eqb (length t) (16 + 16 * total t))) (Some Refusal.Length)
+    None))))
 
 -- "Nodes are numbered from 0 over the whole table": the number of tree x's first node, its root; that of tree 4 is the end.
 unfoldable pub root : List ℕ → ℕ → ℕ

@@ -10,6 +10,7 @@ pub mod Nesting
 pub mod Trees
 pub mod Series
 pub mod Reach
+pub mod Outcome
 pub mod Checked
 pub mod Ends
 pub mod Reading

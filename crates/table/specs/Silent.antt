@@ -8,7 +8,6 @@ use Rattle.table.specs.{Trees.between, Trees.trend, Trees.every, Trees.any, Tree
 use Rattle.table.specs.{Trees.reach_of, Reading.tree_of, Writing.nodes_of, Laws.Accepted.WholeTree}
 use Rattle.words.specs.{declared.refusal.Refusal.Refusal}
 use Rattle.table.specs.{declared.answer.Accepted.Accepted}
-use Rattle.words.specs.declared.refusal.Refusal.TheVariants as Refusal
 
 -- The tests: a comparison, a cross, Between, Rising and Falling. All else only joins their answers, or reads the position.
 unfoldable pub is_test : Condition → Bool

@@ -1,8 +1,14 @@
 // The answer to a table.
-use crate::answer::Accepted;
 use words::refusal::Refusal;
 
-// The answer, and the subtree ends of an accepted table.
+// What an accepted table has and needs.
+#[derive(Clone, Copy)]
+pub struct Accepted {
+    pub nodes: usize,
+    pub rows: u64,
+}
+
+// The answer to a table, and the subtree ends of an accepted one.
 #[derive(Clone, Copy)]
 pub struct Checked {
     pub answer: Result<Accepted, Refusal>,

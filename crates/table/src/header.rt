@@ -5,6 +5,7 @@ ghost use Rattle.table.specs.Header.{form_of, mark_right, version_right, counts_
 
 use crate::bytes::{byte, read16};
 use words::limits::{MOST_NODES, MOST_SLOTS};
+use words::refusal::Refusal;
 
 // The newest version of a table that there is.
 pub const NEWEST: usize = 2;
@@ -94,25 +95,25 @@ fn version_right(t: &[u8], newest: usize) -> bool
     1 <= version && version <= newest
 }
 
-// The first of rules 1 to 5 that the table breaks, or 0, for a reader of versions 1 to `newest`.
+// The first of rules 1 to 5 that the table breaks, for a reader of versions 1 to `newest`.
 #[tactic(auto, unfolding(crate::specs::Header::header_refusal))]
-pub fn header_refusal(t: &[u8], newest: usize) -> u8
+pub fn header_refusal(t: &[u8], newest: usize) -> Option<Refusal>
     ensures { result ≡ header_refusal newest t.now }
 {
     if t.len() < 16 {
-        return 1;
+        return Some(Refusal::Size);
     }
     if !mark_right(t) {
-        return 2;
+        return Some(Refusal::Mark);
     }
     if !version_right(t, newest) {
-        return 3;
+        return Some(Refusal::Version);
     }
     if !counts_right(t) {
-        return 4;
+        return Some(Refusal::Counts);
     }
     if t.len() != 16 + 16 * total(t) {
-        return 5;
+        return Some(Refusal::Length);
     }
-    0
+    None
 }

@@ -14,15 +14,14 @@ pub mod silent;
 pub mod trees;
 mod weighing;
 
-ghost use Rattle.std.specs.Prelude.{◌≡◌, replicate, Err};
+ghost use Rattle.std.specs.Prelude.{◌≡◌, replicate, None, Err};
 ghost use Rattle.words.specs.Limits.{most_nodes};
 ghost use Rattle.table.specs.Header.{header_refusal};
 ghost use Rattle.table.specs.Checked.{checked, checked_up_to, from7, from8, from9};
 ghost use Rattle.table.specs.Ends.{ends_all, ends_for, ends_beside};
 ghost use Rattle.table.specs.Passes.{AreRoots, LinkedAll};
 
-use crate::answer::Accepted;
-use answer::Checked;
+use answer::{Accepted, Checked};
 use nesting::too_deep;
 use nodes::wrong_node;
 use order::{misfits_of, order_all};
@@ -79,7 +78,7 @@ fn check_order(t: &[u8], roots: Roots) -> Checked
 }
 
 fn check_nodes(t: &[u8], newest: usize) -> Checked
-    requires { header_refusal newest t.now ≡ 0 }
+    requires { header_refusal newest t.now ≡ None }
     ensures { (result.answer ≡ checked_up_to newest t.now)
         × (result.ends ≡ ends_for (checked_up_to newest t.now) (ends_all t.now)) }
 {
@@ -111,14 +110,9 @@ pub fn check_up_to(t: &[u8], newest: usize) -> Checked
     ensures { (result.answer ≡ checked_up_to newest t.now)
         × (result.ends ≡ ends_for (checked_up_to newest t.now) (ends_all t.now)) }
 {
-    let number = header::header_refusal(t, newest);
-    if number == 0 {
-        check_nodes(t, newest)
-    } else {
-        refused(Refusal {
-            number: number as u64,
-            place: 0,
-        })
+    match header::header_refusal(t, newest) {
+        Some(refusal) => refused(refusal),
+        None => check_nodes(t, newest),
     }
 }
 

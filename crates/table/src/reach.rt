@@ -31,11 +31,7 @@ fn reach_of(t: &[u8], ends: &[usize; 256], b: usize, e: usize) -> u64
 fn far_at(reach: u64, b: usize) -> Option<usize>
     ensures { result ≡ far_at reach b }
 {
-    if MOST_REACH < reach {
-        Some(b)
-    } else {
-        None
-    }
+    if MOST_REACH < reach { Some(b) } else { None }
 }
 
 fn too_far(w: u64, x: u64, y: u64, z: u64, roots: Roots) -> Option<usize>

@@ -8,6 +8,7 @@ ghost use Rattle.table.specs.Header.{root};
 ghost use Rattle.table.specs.Forest.{forest_of};
 ghost use Rattle.table.specs.Laws.Accepted.{WholeTree};
 ghost use Rattle.table.specs.Silent.{WholeTrees, silent_answer, list_after_answer, silent_nodes, four_silent, put_all};
+
 use crate::kinds::{CONDITION, OPERAND, kind_of};
 use crate::nodes::node_at;
 use crate::weighing::{Weight, weigh_tree};

@@ -7,10 +7,9 @@ use Rattle.floats.specs.{Floats.word_of}
 use Rattle.totals.specs.{Exact.nearest_to, Exact.number_in}
 use Rattle.totals.specs.{Trades.Trade, Trades.trades_from, Trades.trades_of, Trades.good_start, Trades.judged_count, Trades.pnl_sum, Totals.total_words}
 use Rattle.totals.specs.{Totals.totals_room, Totals.count_size, Totals.AllAtMost, Totals.all_small, Totals.counts_of, Totals.sum_words, Totals.record_of}
-use Rattle.totals.specs.{Totals.with_counts, Totals.both_counts, Totals.sum_with, Totals.traded, Totals.counts_fine, Totals.unless, Totals.first_of}
+use Rattle.totals.specs.{Totals.with_counts, Totals.both_counts, Totals.sum_with, Totals.traded, Totals.counts_fine, Totals.unless}
 use Rattle.totals.specs.{Totals.add_answer, Totals.add_leaves, Totals.join_answer, Totals.join_leaves, Laws.Trades.length_trades, Laws.Trades.all_good}
 use Rattle.totals.specs.{Laws.Counts.small_all}
-use Rattle.words.specs.declared.refusal.Refusal.TheVariants as Refusal
 
 -- as many are judged as there are, where totals can hold them
 few : (n : ℕ) → n ≤ most_count → judged_count n ≡ n
@@ -60,14 +59,17 @@ at_most_as e f h = omega arith
 
 -- ---- lines of an order
 
--- a line by itself, and then the lines after it
-first_line : (ok : Bool) (number at : ℕ) (later : Result (Unit {0}) Refusal) → first_of (unless ok number at (Ok tt)) later ≡ unless ok number at later
-unfolding first_of
-first_line true number at later = refl
-first_line false number at later = refl
+-- a line that refuses by itself refuses whatever follows; one that does not leaves it to what follows
+line_refuses : (ok : Bool) (why : Refusal) (later : Result (Unit {0}) Refusal) {r : Refusal} → unless ok why (Ok tt) ≡ Err r → unless ok why later ≡ Err r
+line_refuses true why later h = absurd (let z : ◌≡◌ {A = ℕ} 0 1 = cc in omega arith)
+line_refuses false why later h = h
 
--- where two lines answer Done, both hold
-both_hold : (p q : Bool) (a b : Refusal) → cond p (cond q (Ok tt) (Err b)) (Err a) ≡ Ok tt → (p ≡ true) × (q ≡ true)
+line_holds : (ok : Bool) (why : Refusal) (later : Result (Unit {0}) Refusal) → unless ok why (Ok tt) ≡ Ok tt → unless ok why later ≡ later
+line_holds true why later h = refl
+line_holds false why later h = absurd (let z : ◌≡◌ {A = ℕ} 0 1 = cc in omega arith)
+
+-- where two lines answer (Ok tt), both hold
+both_hold : (p q : Bool) (a b : Refusal) → unless p a (unless q b (Ok tt)) ≡ Ok tt → (p ≡ true) × (q ≡ true)
 both_hold true true a b e = (refl, refl)
 both_hold true false a b e = absurd (let z : ◌≡◌ {A = ℕ} 0 1 = cc in omega arith)
 both_hold false q a b e = absurd (let z : ◌≡◌ {A = ℕ} 0 1 = cc in omega arith)
@@ -97,18 +99,25 @@ module _ (totals trades : List ℕ) where
 
         -- the two lines that are left
         add_left : add_answer totals trades
-            ≡ unless (leb (judged_count n) (length good)) 17 (length good) (unless (leb (traded (counts_of totals) + n) most_count) 22 0 (Ok tt))
+            ≡ unless (leb (judged_count n) (length good)) (Refusal.Trade (length good)) (unless (leb (traded (counts_of totals) + n) most_count) Refusal.Total (Ok tt))
         unfolding add_answer
         add_left = simp (le-leb _ _ long, eq-eqb _ _ whole, fine)
 
-        -- the first of two judgements decides, where each is a line's
-        pub add_judged : {g j m : ℕ} {bad many said : Result (Unit {0}) Refusal} → g ≡ length good → j ≡ judged_count n → m ≡ traded (counts_of totals) + n
-            → bad ≡ unless (leb j g) 17 g (Ok tt) → many ≡ unless (leb m most_count) 22 0 (Ok tt) → said ≡ first_of bad many → add_answer totals trades ≡ said
-        add_judged {g} {j} {m} {bad} {many} {said} u v w x y z =
-            let over = unless (leb m most_count) 22 0 (Ok tt) in
-            add_left ∙ sym (z ∙ ap (λ (q : Result (Unit {0}) Refusal). first_of q many) x ∙ ap (first_of (unless (leb j g) 17 g (Ok tt))) y ∙ first_line (leb j g) 17 g over
-            ∙ ap (λ (k : ℕ). unless (leb j k) 17 k over) u ∙ ap (λ (k : ℕ). unless (leb k (length good)) 17 (length good) over) v
-            ∙ ap (λ (k : ℕ). unless (leb (judged_count n) (length good)) 17 (length good) (unless (leb k most_count) 22 0 (Ok tt))) w)
+        -- 17 decides where it refuses ..
+        pub add_bad : {g j : ℕ} {why : Refusal} → g ≡ length good → j ≡ judged_count n → unless (leb j g) (Refusal.Trade g) (Ok tt) ≡ Err why
+            → add_answer totals trades ≡ Err why
+        add_bad {g} {j} {why} u v y =
+            let over = unless (leb (traded (counts_of totals) + n) most_count) Refusal.Total (Ok tt) in
+            add_left ∙ line_refuses (leb (judged_count n) (length good)) (Refusal.Trade (length good)) over (rw (sym u, sym v) y)
+
+        -- .. and else 22
+        pub add_many : {g j m : ℕ} {said : Result (Unit {0}) Refusal} → g ≡ length good → j ≡ judged_count n → m ≡ traded (counts_of totals) + n
+            → unless (leb j g) (Refusal.Trade g) (Ok tt) ≡ Ok tt → said ≡ unless (leb m most_count) Refusal.Total (Ok tt)
+            → add_answer totals trades ≡ said
+        add_many {g} {j} {m} {said} u v w y z =
+            let over = unless (leb (traded (counts_of totals) + n) most_count) Refusal.Total (Ok tt) in
+            add_left ∙ line_holds (leb (judged_count n) (length good)) (Refusal.Trade (length good)) over (rw (sym u, sym v) y)
+            ∙ sym (z ∙ ap (λ (k : ℕ). unless (leb k most_count) Refusal.Total (Ok tt)) w)
 
         module _ (done : add_answer totals trades ≡ Ok tt) where
           both : (leb (judged_count n) (length good) ≡ true) × (leb (traded (counts_of totals) + n) most_count ≡ true)

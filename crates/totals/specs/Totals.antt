@@ -72,32 +72,27 @@ unfoldable pub counts_fine : List ℕ → Bool
 counts_fine c = cond (all_small c) (leb (word c 6 + word c 7) (traded c)) false
 
 -- a line of the order: where it does not hold it is the answer; else what follows decides
-abbrev pub unless : Bool → ℕ → ℕ → Result (Unit {0}) Refusal → Result (Unit {0}) Refusal
-unless ok number at later = cond ok later (Err (refusal number at))
-
--- of two lines the first that refuses
-unfoldable pub first_of : Result (Unit {0}) Refusal → Result (Unit {0}) Refusal → Result (Unit {0}) Refusal
-first_of (Ok tt) later = later
-first_of (Err why) later = Err why
+abbrev pub unless : Bool → Refusal → Result (Unit {0}) Refusal → Result (Unit {0}) Refusal
+unless ok why later = cond ok later (Err why)
 
 -- "after 13, 17 for a pnl that is not finite or a reason outside 1 to 6, with its trade number, then 22 at 0 if the trades would pass 2^32 − 1"
 unfoldable pub add_answer : List ℕ → List ℕ → Result (Unit {0}) Refusal
 add_answer totals trades =
     let n = length trades / trade_words in
     let good = good_start (trades_from (judged_count n) 0 trades) in
-    unless (leb total_words (length totals)) 10 totals_room
-    (unless (eqb (length trades % trade_words) 0) 13 0
-    (unless (counts_fine (counts_of totals)) 13 0
-    (unless (leb (judged_count n) (length good)) 17 (length good)
-    (unless (leb (traded (counts_of totals) + n) most_count) 22 0 (Ok tt)))))
+    unless (leb total_words (length totals)) (Refusal.Room totals_room)
+    (unless (eqb (length trades % trade_words) 0) Refusal.Records
+    (unless (counts_fine (counts_of totals)) Refusal.Records
+    (unless (leb (judged_count n) (length good)) (Refusal.Trade (length good))
+    (unless (leb (traded (counts_of totals) + n) most_count) Refusal.Total (Ok tt)))))
 
 unfoldable pub join_answer : List ℕ → List ℕ → Result (Unit {0}) Refusal
 join_answer totals other =
-    unless (leb total_words (length totals)) 10 totals_room
-    (unless (eqb (length other) total_words) 13 0
-    (unless (counts_fine (counts_of totals)) 13 0
-    (unless (counts_fine (counts_of other)) 13 0
-    (unless (leb (traded (counts_of totals) + traded (counts_of other)) most_count) 22 0 (Ok tt)))))
+    unless (leb total_words (length totals)) (Refusal.Room totals_room)
+    (unless (eqb (length other) total_words) Refusal.Records
+    (unless (counts_fine (counts_of totals)) Refusal.Records
+    (unless (counts_fine (counts_of other)) Refusal.Records
+    (unless (leb (traded (counts_of totals) + traded (counts_of other)) most_count) Refusal.Total (Ok tt)))))
 
 -- ---- what a call leaves: "the totals stay as they were" beside a refusal
 

@@ -9,7 +9,7 @@ ghost use Rattle.std.specs.Prelude.{◌≡◌, ◌++◌, ◌∷◌, [], leb, Err
 ghost use Rattle.words.specs.Words.{overwrite};
 ghost use Rattle.words.specs.Limits.{most_count};
 ghost use Rattle.totals.specs.Trades.{judged_count};
-ghost use Rattle.totals.specs.Totals.{unless, first_of, add_answer, add_leaves, join_answer, join_leaves};
+ghost use Rattle.totals.specs.Totals.{unless, add_answer, add_leaves, join_answer, join_leaves};
 
 use words::limits::{MOST_COUNT, TRADE_WORDS};
 use words::places;
@@ -20,15 +20,6 @@ pub const TOTAL_WORDS: usize = 43;
 
 // The number of the room that holds totals.
 const TOTALS_ROOM: u64 = 11;
-
-fn refused(number: u64, place: u64) -> Result<(), Refusal>
-    ensures { result ≡ Err (record { number = number; place = place }) }
-{
-    Err(Refusal {
-        number: number,
-        place: place,
-    })
-}
 
 // How many of n trades are judged with 17: as many as totals can hold.
 #[tactic(auto, unfolding(crate::specs::Trades::judged_count))]
@@ -43,7 +34,7 @@ fn judged_count(n: usize) -> usize
 
 // 17 at the first trade that cannot be counted, where so many of those that are judged can be.
 fn bad_trade(good: usize, judged: usize) -> Result<(), Refusal>
-    ensures { result ≡ unless (leb judged good) 17 good (Ok tt) }
+    ensures { result ≡ unless (leb judged good) (Refusal.Trade good) (Ok tt) }
 {
     if good < judged {
         return Err(Refusal::Trade(good as u64));
@@ -53,22 +44,12 @@ fn bad_trade(good: usize, judged: usize) -> Result<(), Refusal>
 
 // 22 where totals cannot hold so many trades.
 fn too_many(trades: u64) -> Result<(), Refusal>
-    ensures { result ≡ unless (leb trades most_count) 22 0 (Ok tt) }
+    ensures { result ≡ unless (leb trades most_count) Refusal.Total (Ok tt) }
 {
     if MOST_COUNT < trades {
         return Err(Refusal::Total);
     }
     Ok(())
-}
-
-// Of two judgements the first that refuses.
-fn first_of(one: Result<(), Refusal>, two: Result<(), Refusal>) -> Result<(), Refusal>
-    ensures { result ≡ first_of one two }
-{
-    match one {
-        Ok(()) => two,
-        Err(why) => Err(why),
-    }
 }
 
 // Adds a list of trades to the totals.
@@ -90,12 +71,8 @@ pub fn add(totals: &mut [u64], trades: &[u64]) -> Result<(), Refusal>
     let n = trades.len() / TRADE_WORDS;
     let judged = judged_count(n);
     let good = counts::count_trades(&mut counts, trades, judged);
-    let bad = bad_trade(good, judged);
-    let many = too_many(traded + n as u64);
-    let judgement = first_of(bad, many);
-    if let Err(why) = judgement {
-        return Err(why);
-    }
+    bad_trade(good, judged)?;
+    too_many(traded + n as u64)?;
     let before = sum::sum_of(totals);
     let mut after = before;
     sum::add_trades(&mut after, trades);

@@ -48,18 +48,18 @@ unfoldable pub on_paper : List Line → Bool
 on_paper [] = true
 on_paper (l ∷ ls) = (leb 1 (number_of l.why) && leb (number_of l.why) 22 && leb (place_of l.why) 31) && on_paper ls
 
-line_small : (ok : Bool) (v : Verdict) (n p : ℕ) (r : Refusal) → (leb 1 n && leb n 22 && leb p 31) ≡ true → (v ≡ Err r → FitsAnswer r)
-    → cond ok v (Err (refusal n p)) ≡ Err r → FitsAnswer r
-line_small true v n p r h below e = below e
-line_small false v n p r h below e =
-    let a = and_true (leb 1 n && leb n 22) (leb p 31) h in
-    let b = and_true (leb 1 n) (leb n 22) a.0 in
-    let number : n ≡ (number_of r) = cc in
-    let place : p ≡ (place_of r) = cc in
+line_small : (ok : Bool) (v : Verdict) (why r : Refusal) → (leb 1 (number_of why) && leb (number_of why) 22 && leb (place_of why) 31) ≡ true
+    → (v ≡ Err r → FitsAnswer r) → cond ok v (Err why) ≡ Err r → FitsAnswer r
+line_small true v why r h below e = below e
+line_small false v why r h below e =
+    let a = and_true (leb 1 (number_of why) && leb (number_of why) 22) (leb (place_of why) 31) h in
+    let b = and_true (leb 1 (number_of why)) (leb (number_of why) 22) a.0 in
+    let number : number_of why ≡ number_of r = cc in
+    let place : place_of why ≡ place_of r = cc in
     record {
-      some = omega (arith, leb-true 1 n b.0);
-      number = omega (arith, leb-true n 22 b.1);
-      place = omega (arith, leb-true p 31 a.1);
+      some = omega (arith, leb-true 1 (number_of why) b.0);
+      number = omega (arith, leb-true (number_of why) 22 b.1);
+      place = omega (arith, leb-true (place_of why) 31 a.1);
     }
 
 pub paper_small : (ls : List Line) → on_paper ls ≡ true → (r : Refusal) → judged ls ≡ Err r → FitsAnswer r
@@ -67,7 +67,7 @@ unfolding judged on_paper
 paper_small [] h r e = never (sym e)
 paper_small (l ∷ ls) h r e =
     let own = and_true (leb 1 (number_of l.why) && leb (number_of l.why) 22 && leb (place_of l.why) 31) (on_paper ls) h in
-    line_small l.ok (judged ls) (number_of l.why) (place_of l.why) r own.0 (paper_small ls own.1 r) e
+    line_small l.ok (judged ls) l.why r own.0 (paper_small ls own.1 r) e
 
 -- the rooms of rows, settings and state, which most calls ask for first
 pub lent_small : (settings state rows : List ℕ) (r : Refusal) → judged (lent_lines settings state rows) ≡ Err r → FitsAnswer r

@@ -19,7 +19,6 @@ use Rattle.stepping.specs.{Bars.lent_lines, Bars.step_gives, Bars.step_call}
 use Rattle.capi.specs.{Fresh.fresh_call, Finish.finish_gives, Finish.finish_call, Figures.metrics_gives, Figures.metrics_call, Laws.Calls.FitsAnswer}
 use Rattle.capi.specs.{Laws.Calls.Numbered, Laws.Calls.Honest, Laws.Calls.honest, Laws.Calls.never_refuses, Laws.Calls.one_refusal}
 use Rattle.capi.specs.{Laws.Calls.after_verdict}
-use Rattle.engine.specs.{Ended.ended}
 use Rattle.refusals.specs.{Lines.Verdict}
 use Rattle.words.specs.{Outcome.place_of}
 

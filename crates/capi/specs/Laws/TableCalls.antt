@@ -23,55 +23,61 @@ use Rattle.capi.specs.{Tables.SilentLent, Tables.silent_gives, Tables.silent_cal
 use Rattle.capi.specs.{Tables.translate_call, Run.rule_gives, Run.rule_call, Run.RunLent, Run.run_gives, Run.run_call, Laws.TablePlaces.UpTo}
 use Rattle.capi.specs.{Laws.TablePlaces.wrong_within, Laws.TablePlaces.misfits_within, Laws.TablePlaces.deep_within, Laws.TablePlaces.far_within}
 use Rattle.capi.specs.{Laws.Calls.FitsAnswer, Laws.Calls.Numbered, Laws.Calls.Honest, Laws.Calls.honest, Laws.Calls.one_refusal, Laws.Calls.never_refuses}
-use Rattle.table.specs.{declared.answer.Accepted.Accepted}
 use Rattle.needed.specs.{Outcome.needs}
+use Rattle.table.specs.{declared.answer.Accepted.Accepted}
 use Rattle.table.specs.{Outcome.accepts}
 use Rattle.words.specs.declared.refusal.Refusal.TheVariants as Refusal
 use Rattle.words.specs.{Outcome.number_of, Outcome.place_of}
 
 -- ---- the numbers of a table's refusals
 
-five : (a b c d e : Bool) → cond a 1 (cond b 2 (cond c 3 (cond d 4 (cond e 5 0)))) ≤ 9
-five true b c d e = omega arith
-five false true c d e = omega arith
-five false false true d e = omega arith
-five false false false true e = omega arith
-five false false false false true = omega arith
-five false false false false false = omega arith
-
-header_number : (t : List ℕ) → header_refusal newest_version t ≤ 9
-unfolding header_refusal
-header_number t =
-    five (ltb (length t) 16) (not (mark_right t)) (not (version_right newest_version t)) (not (counts_right t)) (not (eqb (length t) (16 + 16 * total t)))
-
 -- a refusal with a small number and place
-small : (n p : ℕ) → 0 < n → n ≤ 15 → p ≤ 1024 → FitsAnswer (refusal n p)
-small n p lo hi near = record { some = lo; number = omega arith; place = omega arith }
+small : (why : Refusal) → 0 < number_of why → number_of why ≤ 15 → place_of why ≤ 1024 → FitsAnswer why
+small why lo hi near = record { some = lo; number = omega arith; place = omega arith }
 
 -- a number from 1 to 9, at a place of the table
 pub record OneToNine (why : Refusal) : Type 0 where
   pub some : 0 < number_of why
-  pub most : (number_of why) ≤ 9
-  pub near : (place_of why) ≤ 1024
+  pub most : number_of why ≤ 9
+  pub near : place_of why ≤ 1024
+
+one : (first why : Refusal) → 0 < number_of first → number_of first ≤ 9 → place_of first ≤ 1024 → Some first ≡ Some why → OneToNine why
+one first why lo hi near e = let same : first ≡ why = cc in rw (sym same) (record { some = lo; most = hi; near = near })
+
+five : (a b c d e : Bool) (why : Refusal)
+    → cond a (Some Refusal.Size) (cond b (Some Refusal.Mark) (cond c (Some Refusal.Version) (cond d (Some Refusal.Counts) (cond e (Some Refusal.Length) None)))) ≡ Some why
+    → OneToNine why
+five true b c d e why h = one Refusal.Size why (omega arith) (omega arith) (omega arith) h
+five false true c d e why h = one Refusal.Mark why (omega arith) (omega arith) (omega arith) h
+five false false true d e why h = one Refusal.Version why (omega arith) (omega arith) (omega arith) h
+five false false false true e why h = one Refusal.Counts why (omega arith) (omega arith) (omega arith) h
+five false false false false true why h = one Refusal.Length why (omega arith) (omega arith) (omega arith) h
+five false false false false false why h = absurd (let z : ◌≡◌ {A = ℕ} 0 1 = cc in omega arith)
+
+-- a refusal of rules 1 to 5 has one of their numbers, and no place
+header_number : (t : List ℕ) (why : Refusal) → header_refusal newest_version t ≡ Some why → OneToNine why
+unfolding header_refusal
+header_number t why =
+    five (ltb (length t) 16) (not (mark_right t)) (not (version_right newest_version t)) (not (counts_right t)) (not (eqb (length t) (16 + 16 * total t))) why
 
 -- a rule of the table that is broken, or what the rules below it say
-rule_number : (n : ℕ) (q : Option ℕ) (a : Result Accepted Refusal) (why : Refusal) → 0 < n → n ≤ 9 → UpTo most_nodes q → (a ≡ Err why → OneToNine why)
-    → or_refused n q a ≡ Err why → OneToNine why
+rule_number : (rule : ℕ → Refusal) (q : Option ℕ) (a : Result Accepted Refusal) (why : Refusal)
+    → ((p : ℕ) → (0 < number_of (rule p)) × (number_of (rule p) ≤ 9) × (place_of (rule p) ≡ p)) → UpTo most_nodes q → (a ≡ Err why → OneToNine why)
+    → or_refused rule q a ≡ Err why → OneToNine why
 unfolding or_refused UpTo
-rule_number n None a why lo hi near below e = below e
-rule_number n (Some p) a why lo hi near below e =
-    let nine : OneToNine (refusal n p) = record { some = lo; most = hi; near = omega (arith, near) } in
-    let same : refusal n p ≡ why = cc in rw same at nine
+rule_number rule None a why says near below e = below e
+rule_number rule (Some p) a why says near below e =
+    let nine : OneToNine (rule p) = record { some = (says p).0; most = (says p).1.0; near = omega (arith, (says p).1.1, near) } in
+    let same : rule p ≡ why = cc in rw same at nine
 
-header_or : (n : ℕ) (a : Result Accepted Refusal) (why : Refusal) → n ≤ 9 → (n ≡ 0 → a ≡ Err why → OneToNine why) → or_header n a ≡ Err why → OneToNine why
-unfolding or_header
-header_or n a why hi below e = go (eqb n 0) refl e
+header_or : (t : List ℕ) (a : Result Accepted Refusal) (why : Refusal) → (header_refusal newest_version t ≡ None → a ≡ Err why → OneToNine why)
+    → or_header (header_refusal newest_version t) a ≡ Err why → OneToNine why
+header_or t a why below = go (header_refusal newest_version t) refl
   where
-    go : (b : Bool) → eqb n 0 ≡ b → cond b a (Err (refusal n 0)) ≡ Err why → OneToNine why
-    go true d f = below (eqb-true n 0 d) f
-    go false d f =
-        let nine : OneToNine (refusal n 0) = record { some = omega (arith, eqb-false n 0 d); most = hi; near = omega arith } in
-        let same : refusal n 0 ≡ why = cc in rw same at nine
+    go : (header : Option Refusal) → header_refusal newest_version t ≡ header → or_header header a ≡ Err why → OneToNine why
+    unfolding or_header
+    go None d f = below d f
+    go (Some first) d f = let same : first ≡ why = cc in header_number t why (d ∙ ap (λ (r : Refusal). Some r) same)
 
 accepted_not : (n r : ℕ) (why : Refusal) → accepts n r ≡ Err why → OneToNine why
 accepted_not n r why e = absurd (let z : ◌≡◌ {A = ℕ} 0 1 = cc in omega arith)
@@ -80,12 +86,12 @@ accepted_not n r why e = absurd (let z : ◌≡◌ {A = ℕ} 0 1 = cc in omega a
 pub one_to_nine : (t : List ℕ) (why : Refusal) → checked t ≡ Err why → OneToNine why
 unfolding checked checked_up_to from7 from8 from9
 one_to_nine t why =
-    header_or (header_refusal newest_version t) _ why (header_number t)
+    header_or t _ why
     (λ h. let r = header_right newest_version t h in
-    rule_number 6 _ _ why (omega arith) (omega arith) (wrong_within t r)
-    (rule_number 7 _ _ why (omega arith) (omega arith) (misfits_within t r)
-    (rule_number 8 _ _ why (omega arith) (omega arith) (deep_within t r)
-    (rule_number 9 _ _ why (omega arith) (omega arith) (far_within t r) (accepted_not _ _ why)))))
+    rule_number Refusal.Node _ _ why (λ p. (omega arith, omega arith, refl)) (wrong_within t r)
+    (rule_number Refusal.Tree _ _ why (λ p. (omega arith, omega arith, refl)) (misfits_within t r)
+    (rule_number Refusal.Nesting _ _ why (λ p. (omega arith, omega arith, refl)) (deep_within t r)
+    (rule_number Refusal.Reach _ _ why (λ p. (omega arith, omega arith, refl)) (far_within t r) (accepted_not _ _ why)))))
 
 -- and so it stands in an answer
 pub table_number : (t : List ℕ) (why : Refusal) → checked t ≡ Err why → FitsAnswer why
@@ -112,7 +118,7 @@ check_honest t before = honest _ before (check_numbered (checked t) (table_numbe
 
 depth_by : (b : Bool) (rows row window : ℕ) → Numbered (depth_gives (cond b (Err (Refusal.Setting 7)) (needs rows row window)))
 unfolding depth_gives
-depth_by true rows row window = one_refusal _ (small _ _ (omega arith) (omega arith) (omega arith))
+depth_by true rows row window = one_refusal _ (small _ (omega arith) (omega arith) (omega arith))
 depth_by false rows row window = never_refuses _
 
 depth_numbered : (a : Result Accepted Refusal) (t : List ℕ) (back : ℕ) → ByTable a → Numbered (depth_gives (depth_answer a t back))
@@ -128,7 +134,7 @@ depth_honest t back before = honest _ before (depth_numbered (checked t) t back 
 
 silent_by : (b : Bool) (many : ℕ) (list : List ℕ) → Numbered (silent_gives (cond b (Err (Refusal.Room 18)) (Ok many)) list)
 unfolding silent_gives
-silent_by true many list = one_refusal _ (small _ _ (omega arith) (omega arith) (omega arith))
+silent_by true many list = one_refusal _ (small _ (omega arith) (omega arith) (omega arith))
 silent_by false many list = never_refuses _
 
 silent_numbered : (a : Result Accepted Refusal) (numbers : List ℕ) (places : ℕ) (list : List ℕ) → ByTable a → Numbered (silent_gives (silent_answer a numbers places) list)
@@ -147,7 +153,7 @@ silent_honest t rows before = honest _ before (silent_numbered (checked t) (sile
 translate_by : (b : Bool) (x count : ℕ) (room : List ℕ) → x ≤ 3
     → Numbered (translate_gives (cond b (Err (Refusal.Room (3 + x))) (Ok count)) room)
 unfolding translate_gives
-translate_by true x count room h = one_refusal _ (small _ _ (omega arith) (omega arith) (omega arith))
+translate_by true x count room h = one_refusal _ (small _ (omega arith) (omega arith) (omega arith))
 translate_by false x count room h = never_refuses _
 
 translate_numbered : (a : Result Accepted Refusal) (t : List ℕ) (x : ℕ) (lent after : List ℕ) → x ≤ 3 → ByTable a
@@ -184,7 +190,7 @@ translate_honest t tree before =
 rule_by : (b said : Bool) (tree : ℕ) → Numbered (rule_gives (cond b (Ok said) (Err Refusal.Records)) tree)
 unfolding rule_gives
 rule_by true said tree = never_refuses _
-rule_by false said tree = one_refusal _ (small _ _ (omega arith) (omega arith) (omega arith))
+rule_by false said tree = one_refusal _ (small _ (omega arith) (omega arith) (omega arith))
 
 rule_numbered : (a : Result Accepted Refusal) (t : List ℕ) (x : ℕ) (rows : List ℕ) (s : PositionState) (tree : ℕ) → ByTable a
     → Numbered (rule_gives (after_check a (judged t x rows s)) tree)
@@ -206,17 +212,17 @@ Near f = (p : ℕ) → f ≡ Err p → p < most_steps
 run_formed : (f : Result (Unit {0}) ℕ) (r : Ran) → Near f → Numbered (run_gives (ran_if f r))
 unfolding run_gives ran_if
 run_formed (Ok tt) r near = never_refuses _
-run_formed (Err p) r near = one_refusal _ (small _ _ (omega arith) (omega arith) (omega (arith, near p refl)))
+run_formed (Err p) r near = one_refusal _ (small _ (omega arith) (omega arith) (omega (arith, near p refl)))
 
 run_by : (b c d e : Bool) (f : Result (Unit {0}) ℕ) (r : Ran) → Near f
     → Numbered (run_gives (cond b (Err (Refusal.Setting 0)) (cond c (Err (Refusal.Setting 1)) (cond d (Err (Refusal.Setting 1))
     (cond e (ran_if f r) (Err Refusal.Records))))))
 unfolding run_gives
-run_by true c d e f r near = one_refusal _ (small _ _ (omega arith) (omega arith) (omega arith))
-run_by false true d e f r near = one_refusal _ (small _ _ (omega arith) (omega arith) (omega arith))
-run_by false false true e f r near = one_refusal _ (small _ _ (omega arith) (omega arith) (omega arith))
+run_by true c d e f r near = one_refusal _ (small _ (omega arith) (omega arith) (omega arith))
+run_by false true d e f r near = one_refusal _ (small _ (omega arith) (omega arith) (omega arith))
+run_by false false true e f r near = one_refusal _ (small _ (omega arith) (omega arith) (omega arith))
 run_by false false false true f r near = run_formed f r near
-run_by false false false false f r near = one_refusal _ (small _ _ (omega arith) (omega arith) (omega arith))
+run_by false false false false f r near = one_refusal _ (small _ (omega arith) (omega arith) (omega arith))
 
 pub run_honest : (list rows : List ℕ) (K D : ℕ) (s : PositionState) (before : RunLent)
     → Honest (run_call list rows K D s before) before (run_gives (runs list rows K D s))

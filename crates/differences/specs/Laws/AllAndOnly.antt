@@ -7,7 +7,6 @@ use Rattle.words.specs.{Laws.Overwrite.overwrite-length}
 use Rattle.differences.specs.{Compared.Comparison, Compared.whole, Compared.written, Compared.compared}
 use Rattle.differences.specs.{Lines.Line, Lines.differences, Lines.line_words, Lines.words_of, Truth.AllAndOnly, Truth.lines_in, Truth.Answered}
 use Rattle.differences.specs.{Laws.ReadBack.lines_back, Laws.ReadBack.rest_kept, Laws.Said.lines_so}
-use Rattle.words.specs.declared.refusal.Refusal.TheVariants as Refusal
 
 unfoldable is_lines : Result ℕ Refusal → Bool
 is_lines (Ok n) = true

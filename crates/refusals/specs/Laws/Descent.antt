@@ -26,7 +26,7 @@ unfolding judged
 fine_line l ls h e = simp h e
 
 -- a line that does not
-pub bad_line : (l : Line) (ls : List Line) → l.ok ≡ false → Err (refusal (number_of l.why) (place_of l.why)) ≡ judged (l ∷ ls)
+pub bad_line : (l : Line) (ls : List Line) → l.ok ≡ false → Err l.why ≡ judged (l ∷ ls)
 unfolding judged
 bad_line l ls h = simp h
 
@@ -53,7 +53,7 @@ abbrev pub past : {ls below : List Line} {l : Line} (b : Below ls) → b.rest �
 past {below = below} {l = l} b e h = record { rest = below; decides = fine_line l below h refl ∙ ap judged (sym e) ∙ b.decides }
 
 -- it does not
-pub stop : {ls below : List Line} {l : Line} (b : Below ls) → b.rest ≡ l ∷ below → l.ok ≡ false → Err (refusal (number_of l.why) (place_of l.why)) ≡ judged ls
+pub stop : {ls below : List Line} {l : Line} (b : Below ls) → b.rest ≡ l ∷ below → l.ok ≡ false → Err l.why ≡ judged ls
 stop b e h = bad_line _ _ h ∙ ap judged (sym e) ∙ b.decides
 
 -- the next lines, judged by themselves, are fine

@@ -6,7 +6,7 @@ use Rattle.refusals.specs.{Lines.Line, Lines.judged, Lines.first_bad}
 use Rattle.refusals.specs.{Lines.Verdict}
 
 -- no verdict is both
-pub never : {A : Type 0} {r : Refusal} → Err r ≡ Ok tt → A
+pub never : {A : Type 0} {r : Refusal} → ◌≡◌ {A = Verdict} (Err r) (Ok tt) → A
 never e = absurd (let z : ◌≡◌ {A = ℕ} 0 1 = cc in omega arith)
 
 -- of two tests in one, both hold

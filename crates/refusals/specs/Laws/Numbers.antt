@@ -15,10 +15,10 @@ unfoldable pub numbered : List Line → Bool
 numbered [] = true
 numbered (l ∷ ls) = leb 10 (number_of l.why) && leb (number_of l.why) 16 && numbered ls
 
-by_line : (ok : Bool) (v : Verdict) (n p : ℕ) (r : Refusal) → 10 ≤ n → n ≤ 16 → (v ≡ Err r → (10 ≤ number_of r) × (number_of r ≤ 16))
-    → cond ok v (Err (refusal n p)) ≡ Err r → (10 ≤ number_of r) × (number_of r ≤ 16)
-by_line true v n p r lo hi below e = below e
-by_line false v n p r lo hi below e = let same : n ≡ (number_of r) = cc in (omega arith, omega arith)
+by_line : (ok : Bool) (v : Verdict) (why r : Refusal) → 10 ≤ number_of why → number_of why ≤ 16 → (v ≡ Err r → (10 ≤ number_of r) × (number_of r ≤ 16))
+    → cond ok v (Err why) ≡ Err r → (10 ≤ number_of r) × (number_of r ≤ 16)
+by_line true v why r lo hi below e = below e
+by_line false v why r lo hi below e = let same : number_of why ≡ number_of r = cc in (omega arith, omega arith)
 
 -- the refusal that lines come to has the number of one of them
 pub number_within : (ls : List Line) (r : Refusal) → numbered ls ≡ true → judged ls ≡ Err r → (10 ≤ number_of r) × (number_of r ≤ 16)
@@ -27,7 +27,7 @@ number_within [] r n e = never (sym e)
 number_within (l ∷ ls) r n e =
     let rest = and_true _ _ n in
     let own = and_true _ _ rest.0 in
-    by_line l.ok (judged ls) (number_of l.why) (place_of l.why) r (leb-true _ _ own.0) (leb-true _ _ own.1) (number_within ls r rest.1) e
+    by_line l.ok (judged ls) l.why r (leb-true _ _ own.0) (leb-true _ _ own.1) (number_within ls r rest.1) e
 
 -- lines below others
 pub both_numbered : (a b : List Line) → numbered a ≡ true → numbered b ≡ true → numbered (a ++ b) ≡ true

@@ -24,7 +24,7 @@ place_below [] r p e = never (sym e)
 place_below (l ∷ ls) r p e = go l.ok refl (λ h. place_below ls r (p.1 h)) e
   where
     go : (ok : Bool) → l.ok ≡ ok → (l.ok ≡ true → judged ls ≡ Err r → place_of r < 2 ^ 32)
-        → cond ok (judged ls) (Err (refusal (number_of l.why) (place_of l.why))) ≡ Err r → place_of r < 2 ^ 32
+        → cond ok (judged ls) (Err l.why) ≡ Err r → place_of r < 2 ^ 32
     go true h below d = below h d
     go false h below d = let same : (place_of l.why) ≡ (place_of r) = cc in omega (arith, p.0)
 

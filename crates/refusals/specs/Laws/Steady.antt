@@ -25,10 +25,10 @@ unfolding whole_bars
 not_a_bar K bars h = ne_eqb _ _ (λ (e : length bars ≡ bar_words K). eqb-false (length bars % bar_words K) 0 h (rw (e, mod_self)))
 
 -- lines below one that does not hold are not looked at
-stops_there : (a b : List Line) (number place : ℕ) → judged (a ++ (line false number place ∷ b)) ≡ judged (a ++ (line false number place ∷ []))
+stops_there : (a b : List Line) (why : Refusal) → judged (a ++ (line false why ∷ b)) ≡ judged (a ++ (line false why ∷ []))
 unfolding judged
-stops_there [] b number place = refl
-stops_there (l ∷ a) b number place = rw (stops_there a b number place)
+stops_there [] b why = refl
+stops_there (l ∷ a) b why = rw (stops_there a b why)
 
 -- what a call of one bar is handed that is not a bar, and what a call of many is handed that is not whole bars
 no_bar : (span : Span) (K : ℕ) (bars : List ℕ) → whole_for span K bars ≡ false → eqb (length bars) (bar_words K) ≡ false

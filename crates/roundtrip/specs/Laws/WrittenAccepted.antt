@@ -107,7 +107,7 @@ module _ (form : Form) (r : Rule) where
     unfolding version_right
     version_read = rw (version_is, le-leb 1 form.version w.some_version, le-leb form.version newest_version w.known_version)
 
-    header_is : header_refusal newest_version t ≡ 0
+    header_is : header_refusal newest_version t ≡ None
     unfolding header_refusal
     header_is =
         let enough : ltb (length t) 16 ≡ false = le-ltb (length t) 16 (omega (arith, long_is)) in

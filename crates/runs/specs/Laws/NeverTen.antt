@@ -26,7 +26,7 @@ above_ten_lem (l ∷ ls) why a e =
     by_line (leb 11 (number_of l.why)) l.ok (judged ls) refl both.0 (above_ten_lem ls why both.1) e
   where
     by_line : (high ok : Bool) (v : Verdict) → leb 11 (number_of l.why) ≡ high → (high || ok) ≡ true → (v ≡ Err why → 11 ≤ number_of why)
-        → cond ok v (Err (refusal (number_of l.why) (place_of l.why))) ≡ Err why → 11 ≤ number_of why
+        → cond ok v (Err l.why) ≡ Err why → 11 ≤ number_of why
     by_line high true v h a below e = below e
     by_line true false v h a below e = let same : (number_of l.why) ≡ (number_of why) = cc in omega (arith, leb-true 11 (number_of l.why) h)
     by_line false false v h a below e = absurd (let z : ◌≡◌ {A = ℕ} 0 1 = cc in omega arith)

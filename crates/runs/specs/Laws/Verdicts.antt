@@ -106,8 +106,8 @@ above [] b b' h f f' = h f f'
 above (l ∷ a) b b' h f f' = by_line l.ok (judged (a ++ b)) (judged (a ++ b')) (above a b b' h) f f'
   where
     by_line : (ok : Bool) (v v' : Verdict) → (NotFull v → NotFull v' → v ≡ v')
-        → NotFull (cond ok v (Err (refusal (number_of l.why) (place_of l.why)))) → NotFull (cond ok v' (Err (refusal (number_of l.why) (place_of l.why))))
-        → cond ok v (Err (refusal (number_of l.why) (place_of l.why))) ≡ cond ok v' (Err (refusal (number_of l.why) (place_of l.why)))
+        → NotFull (cond ok v (Err l.why)) → NotFull (cond ok v' (Err l.why))
+        → cond ok v (Err l.why) ≡ cond ok v' (Err l.why)
     by_line true v v' same f f' = same f f'
     by_line false v v' same f f' = refl
 

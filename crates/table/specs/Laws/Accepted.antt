@@ -1,8 +1,8 @@
 -- What an accepted table is: every rule is kept, and what follows for each of its trees.
 -- Assumes nothing.
-use Rattle.std.specs.Prelude.{◌≡◌, refl, Bool, true, false, cond, List, [], ◌∷◌, ℕ, zero, suc, ◌+◌, ◌-◌, ◌≤◌, ◌<◌, get_or, ltb, eqb, Err, None, Option, Result, Some}
+use Rattle.std.specs.Prelude.{◌≡◌, refl, true, false, cond, List, [], ◌∷◌, ℕ, zero, suc, ◌+◌, ◌-◌, ◌≤◌, ◌<◌, get_or, ltb, Err, None, Option, Result, Some}
 use Rattle.words.specs.Prelude.{sym, ◌∙◌, ap, subst, arith, eq-zero-or-pos}
-use Rattle.words.specs.Prelude.{zero-add, add-zero, ⊎_elim, eqb-true, ne_eqb, lt-ltb, le-ltb}
+use Rattle.words.specs.Prelude.{zero-add, add-zero, ⊎_elim, ne_eqb, lt-ltb, le-ltb}
 use Rattle.words.specs.{Limits.most_reach, Limits.most_nesting, Limits.most_nodes, declared.refusal.Refusal.Refusal}
 use Rattle.table.specs.{Header.newest_version, Header.total, Header.count, Header.root, Header.header_refusal, Nodes.node_right, Nodes.wrong_node, Order.fits}
 use Rattle.table.specs.{Order.misfit, Order.misfits, Order.or_place, Order.of_four, Forest.trees, Forest.sorts, Forest.Sorted, Forest.forest_of}
@@ -18,18 +18,25 @@ use Rattle.table.specs.{Outcome.accepts}
 refused_not : (why : Refusal) (n r : ℕ) → Err why ≡ accepts n r → ⊥
 refused_not why n r h = let z : ◌≡◌ {A = ℕ} 0 1 = cc in omega arith
 
-rule_kept : (nr n r : ℕ) (q : Option ℕ) (a : Result Accepted Refusal) → or_refused nr q a ≡ accepts n r → (q ≡ None) × (a ≡ accepts n r)
-unfolding or_refused
-rule_kept nr n r None a h = (refl, h)
-rule_kept nr n r (Some p) a h = absurd (refused_not _ n r h)
+-- two answers that are one have the same numbers
+accepts_same : (m q n r : ℕ) → accepts m q ≡ accepts n r → (n ≡ m) × (r ≡ q)
+accepts_same m q n r h =
+    let same : ◌≡◌ {A = Accepted} (record { nodes = n; rows = r }) (record { nodes = m; rows = q }) = cc h in
+    (ap (λ (a : Accepted). a.nodes) same, ap (λ (a : Accepted). a.rows) same)
 
-header_kept : (b : Bool) (nr n r : ℕ) (a : Result Accepted Refusal) → cond b a (Err (refusal nr 0)) ≡ accepts n r → (b ≡ true) × (a ≡ accepts n r)
-header_kept true nr n r a h = (refl, h)
-header_kept false nr n r a h = absurd (refused_not _ n r h)
+rule_kept : (rule : ℕ → Refusal) (n r : ℕ) (q : Option ℕ) (a : Result Accepted Refusal) → or_refused rule q a ≡ accepts n r → (q ≡ None) × (a ≡ accepts n r)
+unfolding or_refused
+rule_kept rule n r None a h = (refl, h)
+rule_kept rule n r (Some p) a h = absurd (refused_not _ n r h)
+
+header_kept : (header : Option Refusal) (n r : ℕ) (a : Result Accepted Refusal) → or_header header a ≡ accepts n r → (header ≡ None) × (a ≡ accepts n r)
+unfolding or_header
+header_kept None n r a h = (refl, h)
+header_kept (Some why) n r a h = absurd (refused_not _ n r h)
 
 -- Every rule is kept, and the answer's two numbers are those of the paper.
 pub record RulesKept (t : List ℕ) (n r : ℕ) : Type 0 where
-  pub header : header_refusal newest_version t ≡ 0
+  pub header : header_refusal newest_version t ≡ None
   pub own : wrong_node t (total t) 0 ≡ None
   pub order : misfits t ≡ None
   pub nesting : too_deep t ≡ None
@@ -38,21 +45,22 @@ pub record RulesKept (t : List ℕ) (n r : ℕ) : Type 0 where
   pub rows : r ≡ rows_needed t
 
 pub accepted : (t : List ℕ) (n r : ℕ) → checked t ≡ accepts n r → RulesKept t n r
-unfolding checked checked_up_to or_header from7 from8 from9
+unfolding checked checked_up_to from7 from8 from9
 accepted t n r h =
-    let h0 = header_kept (eqb (header_refusal newest_version t) 0) (header_refusal newest_version t) n r _ h in
-    let h6 = rule_kept 6 n r _ _ h0.1 in
-    let h7 = rule_kept 7 n r _ _ h6.1 in
-    let h8 = rule_kept 8 n r _ _ h7.1 in
-    let h9 = rule_kept 9 n r _ _ h8.1 in
+    let h0 = header_kept (header_refusal newest_version t) n r _ h in
+    let h6 = rule_kept Refusal.Node n r _ _ h0.1 in
+    let h7 = rule_kept Refusal.Tree n r _ _ h6.1 in
+    let h8 = rule_kept Refusal.Nesting n r _ _ h7.1 in
+    let h9 = rule_kept Refusal.Reach n r _ _ h8.1 in
+    let sizes = accepts_same _ _ n r h9.1 in
     record {
-      header = eqb-true _ _ h0.0;
+      header = h0.0;
       own = h6.0;
       order = h7.0;
       nesting = h8.0;
       reaches = h9.0;
-      nodes = cc h9.1;
-      rows = cc h9.1;
+      nodes = sizes.0;
+      rows = sizes.1;
     }
 
 -- and the other way round

@@ -1,9 +1,9 @@
 -- What a header that breaks no rule says.
 -- Assumes nothing.
-use Rattle.std.specs.Prelude.{◌≡◌, refl, Bool, true, false, not, cond, ◌&&◌, List, ℕ, ◌+◌, ◌*◌, ◌≤◌, length, ltb, leb, eqb}
+use Rattle.std.specs.Prelude.{◌≡◌, refl, Bool, true, false, not, cond, ◌&&◌, List, ℕ, ◌+◌, ◌*◌, ◌≤◌, length, ltb, leb, eqb, Option, Some, None}
 use Rattle.words.specs.Prelude.{sym, arith, ltb-false, leb-true}
 use Rattle.words.specs.Prelude.{eqb-true, not-true}
-use Rattle.words.specs.{Limits.most_slots, Limits.most_nodes}
+use Rattle.words.specs.{Limits.most_slots, Limits.most_nodes, declared.refusal.Refusal.Refusal}
 use Rattle.table.specs.{Header.slots, Header.version, Header.total, Header.count, Header.mark_right, Header.version_right, Header.counts_right}
 use Rattle.table.specs.{Header.header_refusal}
 
@@ -14,9 +14,9 @@ pub and_parts : (a b : Bool) → (a && b) ≡ true → (a ≡ true) × (b ≡ tr
 and_parts true b h = (refl, h)
 and_parts false b h = absurd (true-false h)
 
-refused_not : (r x : ℕ) (b : Bool) → cond b r x ≡ 0 → (r ≡ 0 → ⊥) → (b ≡ false) × (x ≡ 0)
-refused_not r x true h some = absurd (some h)
-refused_not r x false h some = (refl, h)
+refused_not : (r : Refusal) (x : Option Refusal) (b : Bool) → cond b (Some r) x ≡ None → (b ≡ false) × (x ≡ None)
+refused_not r x true h = absurd (let z : ◌≡◌ {A = ℕ} 0 1 = cc in omega arith)
+refused_not r x false h = (refl, h)
 
 not-not : (b : Bool) → not b ≡ false → b ≡ true
 not-not true h = refl
@@ -34,14 +34,14 @@ pub record HeaderRight (newest : ℕ) (t : List ℕ) : Type 0 where
   pub sums : count t 0 + count t 1 + count t 2 + count t 3 ≡ total t
   pub long : length t ≡ 16 + 16 * total t
 
-pub header_right : (newest : ℕ) (t : List ℕ) → header_refusal newest t ≡ 0 → HeaderRight newest t
+pub header_right : (newest : ℕ) (t : List ℕ) → header_refusal newest t ≡ None → HeaderRight newest t
 unfolding header_refusal version_right counts_right
 header_right newest t h =
-    let h1 = refused_not 1 _ (ltb (length t) 16) h (λ z. omega arith) in
-    let h2 = refused_not 2 _ (not (mark_right t)) h1.1 (λ z. omega arith) in
-    let h3 = refused_not 3 _ (not (version_right newest t)) h2.1 (λ z. omega arith) in
-    let h4 = refused_not 4 _ (not (counts_right t)) h3.1 (λ z. omega arith) in
-    let h5 = refused_not 5 _ (not (eqb (length t) (16 + 16 * total t))) h4.1 (λ z. omega arith) in
+    let h1 = refused_not Refusal.Size _ (ltb (length t) 16) h in
+    let h2 = refused_not Refusal.Mark _ (not (mark_right t)) h1.1 in
+    let h3 = refused_not Refusal.Version _ (not (version_right newest t)) h2.1 in
+    let h4 = refused_not Refusal.Counts _ (not (counts_right t)) h3.1 in
+    let h5 = refused_not Refusal.Length _ (not (eqb (length t) (16 + 16 * total t))) h4.1 in
     let v = and_parts (leb 1 (version t)) (leb (version t) newest) (not-not _ h3.0) in
     let c5 = and_parts _ (eqb (count t 0 + count t 1 + count t 2 + count t 3) (total t)) (not-not _ h4.0) in
     let c4 = and_parts _ (not (ltb (count t 1) 1)) c5.0 in

@@ -1,11 +1,12 @@
 -- Each test is a line of the order; what is written is the record with the trades. Assumes nothing.
-use Rattle.words.specs.Prelude.{◌≡◌, refl, sym, ap, ◌∙◌, true, List, ℕ, ◌+◌, ◌*◌, ◌/◌, ◌≤◌, arith, length}
+use Rattle.std.specs.Prelude.{Err}
+use Rattle.words.specs.Prelude.{rules, ◌≡◌, refl, sym, ap, ◌∙◌, true, List, ℕ, ◌+◌, ◌*◌, ◌/◌, ◌≤◌, arith, length}
 use Rattle.words.specs.{Limits.trade_words, Limits.most_count}
 use Rattle.totals.specs.{Trades.trades_from, Trades.trades_of, Trades.good_start}
 use Rattle.totals.specs.{Trades.pnl_sum, Totals.count_size, Totals.AllAtMost, Totals.counts_of}
-use Rattle.totals.specs.{Totals.with_counts, Totals.sum_with, Totals.traded, Totals.counts_fine, Totals.add_answer}
+use Rattle.totals.specs.{Totals.with_counts, Totals.sum_with, Totals.traded, Totals.counts_fine}
 use Rattle.totals.proofs.{Testing.so, Testing.not_so, Answers.judged_most, Answers.fine_small, Answers.traded_most, Answers.length_of, Answers.written}
-use Rattle.totals.proofs.{Answers.at_most_as, Answers.add_short, Answers.add_ragged, Answers.add_wrong, Answers.add_judged, Answers.all_of_them}
+use Rattle.totals.proofs.{Answers.at_most_as, Answers.add_short, Answers.add_ragged, Answers.add_wrong, Answers.add_bad, Answers.add_many, Answers.all_of_them}
 use Rattle.totals.proofs.{Answers.add_keeps, Answers.add_writes}
 use Rattle.totals.proofs.add.Goals as goal
 
@@ -16,13 +17,13 @@ pub returns-then-totals-lt-TOTAL_WORDS : goal.returns-then-totals-lt-TOTAL_WORDS
 returns-then-totals-lt-TOTAL_WORDS c =
     let start = c.args in
     let told = add_short start.totals.now start.trades.now c.if-totals-lt-TOTAL_WORDS.true in
-    (c.refused.ensures ∙ sym told, add_keeps _ _ _ told)
+    (sym told, add_keeps _ _ _ told)
 
 pub returns-then-trades-ne0 : goal.returns-then-trades-ne0
 returns-then-trades-ne0 c =
     let start = c.args in
     let told = add_ragged start.totals.now start.trades.now c.if-totals-lt-TOTAL_WORDS.false c.if-trades-ne0.true in
-    (c.refused-then-trades-ne0.ensures ∙ sym told, add_keeps _ _ _ told)
+    (sym told, add_keeps _ _ _ told)
 
 pub returns-then-not-fine : goal.returns-then-not-fine
 returns-then-not-fine c =
@@ -31,7 +32,7 @@ returns-then-not-fine c =
     ∙ not_so _ c.if-not-fine.true-raw in
     let told = add_wrong start.totals.now start.trades.now c.if-totals-lt-TOTAL_WORDS.false
     c.if-trades-ne0.false wrong in
-    (c.refused-then-not-fine.ensures ∙ sym told, add_keeps _ _ _ told)
+    (sym told, add_keeps _ _ _ told)
 
 pub traded-traded-requires : goal.traded-traded-requires
 traded-traded-requires c =
@@ -57,40 +58,42 @@ overflow_add-traded c =
     let good = c.well_formed in
     omega (arith, c.traded-traded.ensures, traded_most c.counts_of-counts.result small.1)
 
-pub returns-in-Err : goal.returns-in-Err
-returns-in-Err c =
-    let judged_so : (let a = c.args in add_answer a.totals.now a.trades.now ≡ c.first_of-judgement.result) = let fine_held : counts_fine (counts_of c.args.totals.now) ≡ true = let fine_read : counts_fine c.counts_of-counts.result ≡ true = sym c.fine.ensures ∙ so _ c.if-not-fine.false-raw in
-    ap counts_fine (sym c.counts_of-counts.ensures) ∙ fine_read in
+pub returns-in_err-bad_trade : goal.returns-in_err-bad_trade
+returns-in_err-bad_trade c =
+    let fine_held : counts_fine (counts_of c.args.totals.now) ≡ true = ap counts_fine (sym c.counts_of-counts.ensures) ∙ (sym c.fine.ensures ∙ so _ c.if-not-fine.false-raw) in
     let start = c.args in
     let trades = start.trades.now in
     let judged = c.judged_count-judged.ensures in
-    let many = c.count_trades-good.ensures.0 ∙ ap (λ (k : ℕ). length (good_start (trades_from k 0 trades))) judged in
-    let traded = c.traded-traded.ensures ∙ ap traded c.counts_of-counts.ensures in
-    add_judged start.totals.now trades c.if-totals-lt-TOTAL_WORDS.false c.if-trades-ne0.false
-    fine_held many judged (ap (λ (k : ℕ). k + length trades / trade_words) traded) c.bad_trade-bad.ensures c.too_many-many.ensures
-    c.first_of-judgement.ensures in
-    let told = judged_so ∙ c.in-Err.is in
-    (sym told, add_keeps _ _ _ told)
+    let good = c.count_trades-good.ensures.0 ∙ ap (λ (k : ℕ). length (good_start (trades_from k 0 trades))) judged in
+    let told = add_bad start.totals.now trades c.if-totals-lt-TOTAL_WORDS.false c.if-trades-ne0.false fine_held good judged
+    (sym c.bad_trade.ensures ∙ c.in_err-bad_trade.was) in
+    let given : c.from_residual.result ≡ Err c.in_err-bad_trade.field-0.0 = search rules in
+    (given ∙ sym told, add_keeps _ _ _ told)
+
+pub returns-in_err-too_many : goal.returns-in_err-too_many
+returns-in_err-too_many c =
+    let fine_held : counts_fine (counts_of c.args.totals.now) ≡ true = ap counts_fine (sym c.counts_of-counts.ensures) ∙ (sym c.fine.ensures ∙ so _ c.if-not-fine.false-raw) in
+    let start = c.args in
+    let trades = start.trades.now in
+    let judged = c.judged_count-judged in
+    let good = c.count_trades-good.ensures.0 ∙ ap (λ (k : ℕ). length (good_start (trades_from k 0 trades))) judged.ensures in
+    let traded = ap (λ (k : ℕ). k + length trades / trade_words) (c.traded-traded.ensures ∙ ap traded c.counts_of-counts.ensures) in
+    let told = add_many start.totals.now trades c.if-totals-lt-TOTAL_WORDS.false c.if-trades-ne0.false fine_held good judged.ensures traded
+    (sym c.bad_trade.ensures ∙ c.in_ok-bad_trade.was) (sym c.in_err-too_many.was ∙ c.too_many.ensures) in
+    let given : c.from_residual-in_err-too_many.result ≡ Err c.in_err-too_many.field-0.0 = search rules in
+    (given ∙ sym told, add_keeps _ _ _ told)
 
 pub returns : goal.returns
 returns c =
-    let fine_held : counts_fine (counts_of c.args.totals.now) ≡ true = let fine_read : counts_fine c.counts_of-counts.result ≡ true = sym c.fine.ensures ∙ so _ c.if-not-fine.false-raw in
-    ap counts_fine (sym c.counts_of-counts.ensures) ∙ fine_read in
-    let judged_so : (let a = c.args in add_answer a.totals.now a.trades.now ≡ c.first_of-judgement.result) = let fine_held : counts_fine (counts_of c.args.totals.now) ≡ true = let fine_read : counts_fine c.counts_of-counts.result ≡ true = sym c.fine.ensures ∙ so _ c.if-not-fine.false-raw in
-    ap counts_fine (sym c.counts_of-counts.ensures) ∙ fine_read in
-    let start = c.args in
-    let trades = start.trades.now in
-    let judged = c.judged_count-judged.ensures in
-    let many = c.count_trades-good.ensures.0 ∙ ap (λ (k : ℕ). length (good_start (trades_from k 0 trades))) judged in
-    let traded = c.traded-traded.ensures ∙ ap traded c.counts_of-counts.ensures in
-    add_judged start.totals.now trades c.if-totals-lt-TOTAL_WORDS.false c.if-trades-ne0.false
-    fine_held many judged (ap (λ (k : ℕ). k + length trades / trade_words) traded) c.bad_trade-bad.ensures c.too_many-many.ensures
-    c.first_of-judgement.ensures in
+    let fine_held : counts_fine (counts_of c.args.totals.now) ≡ true = ap counts_fine (sym c.counts_of-counts.ensures) ∙ (sym c.fine.ensures ∙ so _ c.if-not-fine.false-raw) in
     let start = c.args in
     let totals = start.totals.now in
     let trades = start.trades.now in
-    let done = judged_so ∙ c.in_default.is in
     let judged = c.judged_count-judged in
+    let good = c.count_trades-good.ensures.0 ∙ ap (λ (k : ℕ). length (good_start (trades_from k 0 trades))) judged.ensures in
+    let traded = ap (λ (k : ℕ). k + length trades / trade_words) (c.traded-traded.ensures ∙ ap traded c.counts_of-counts.ensures) in
+    let done = add_many totals trades c.if-totals-lt-TOTAL_WORDS.false c.if-trades-ne0.false fine_held good judged.ensures traded
+    (sym c.bad_trade.ensures ∙ c.in_ok-bad_trade.was) (sym c.in_ok-too_many.was ∙ c.too_many.ensures) in
     let counts =
     c.count_trades-good.ensures.1
     ∙ ap (λ (l : List ℕ). with_counts l (good_start (trades_from judged.result 0 trades))) c.counts_of-counts.ensures

@@ -12,13 +12,13 @@ pub returns-then-totals-lt-TOTAL_WORDS : goal.returns-then-totals-lt-TOTAL_WORDS
 returns-then-totals-lt-TOTAL_WORDS c =
     let start = c.args in
     let told = join_short start.totals.now start.other.now c.if-totals-lt-TOTAL_WORDS.true in
-    (c.refused.ensures ∙ sym told, join_keeps _ _ _ told)
+    (sym told, join_keeps _ _ _ told)
 
 pub returns-then-other-ne-TOTAL_WORDS : goal.returns-then-other-ne-TOTAL_WORDS
 returns-then-other-ne-TOTAL_WORDS c =
     let start = c.args in
     let told = join_ragged start.totals.now start.other.now c.if-totals-lt-TOTAL_WORDS.false c.if-other-ne-TOTAL_WORDS.true in
-    (c.refused-then-other-ne-TOTAL_WORDS.ensures ∙ sym told, join_keeps _ _ _ told)
+    (sym told, join_keeps _ _ _ told)
 
 pub returns-then-not-fine : goal.returns-then-not-fine
 returns-then-not-fine c =
@@ -27,7 +27,7 @@ returns-then-not-fine c =
     ∙ not_so _ c.if-not-fine.true-raw in
     let told = join_wrong start.totals.now start.other.now c.if-totals-lt-TOTAL_WORDS.false
     c.if-other-ne-TOTAL_WORDS.false wrong in
-    (c.refused-then-not-fine.ensures ∙ sym told, join_keeps _ _ _ told)
+    (sym told, join_keeps _ _ _ told)
 
 pub returns-then-not-fine-2 : goal.returns-then-not-fine-2
 returns-then-not-fine-2 c =
@@ -37,7 +37,7 @@ returns-then-not-fine-2 c =
     ∙ not_so _ c.if-not-fine-2.true-raw in
     let told = join_other start.totals.now start.other.now c.if-totals-lt-TOTAL_WORDS.false
     c.if-other-ne-TOTAL_WORDS.false fine_held wrong in
-    (c.refused-then-not-fine-2.ensures ∙ sym told, join_keeps _ _ _ told)
+    (sym told, join_keeps _ _ _ told)
 
 pub traded-requires : goal.traded-requires
 traded-requires c =
@@ -77,7 +77,7 @@ returns-then-traded-gt-MOST_COUNT c =
     let told = join_many start.totals.now start.other.now c.if-totals-lt-TOTAL_WORDS.false
     c.if-other-ne-TOTAL_WORDS.false fine_held fine_other
     (less_as refl traded_both c.if-traded-gt-MOST_COUNT.true) in
-    (c.refused-then-traded-gt-MOST_COUNT.ensures ∙ sym told, join_keeps _ _ _ told)
+    (sym told, join_keeps _ _ _ told)
 
 pub both_counts-both-requires : goal.both_counts-both-requires
 both_counts-both-requires c =

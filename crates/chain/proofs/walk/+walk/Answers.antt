@@ -16,10 +16,10 @@ walk-requires t c =
     let down = goes_down _ _ _ _ _ _ _ _ (sym c.next_node.ensures ∙ c.in-Some.is) in
     (omega (arith, down), omega (arith, down))
 
-pub returns-in-Stop : goal.returns-in-Stop
-returns-in-Stop t c =
+pub returns-in-None : goal.returns-in-None
+returns-in-None t c =
     let both = walked_one _ _ _ _ _ _ _ _ _ _ _ c.put_line.ensures
-    c.next_node.ensures c.in-Stop.is in
+    c.next_node.ensures c.in-None.is in
     record { value = both.0; lines_after = both.1 }
 
 pub returns-in-Some : goal.returns-in-Some

@@ -1,5 +1,5 @@
 -- From what was counted, by the law of each way out.
-use Rattle.words.specs.Prelude.{ℕ, ◌*◌, ◌/◌, ◌^◌, ◌<◌, ◌≤◌, min, ◌≡◌, sym, ◌∙◌, arith}
+use Rattle.words.specs.Prelude.{refl, ℕ, ◌*◌, ◌/◌, ◌^◌, ◌<◌, ◌≤◌, min, ◌≡◌, sym, ◌∙◌, arith}
 use Rattle.differences.proofs.{Comparing.Counted, Comparing.refuses, Comparing.lines_fit, Comparing.all_fit, Comparing.nothing, Comparing.writes}
 use Rattle.differences.proofs.compare.compare_whole.Goals as goal
 
@@ -86,4 +86,4 @@ returns c =
       other = c.count_few-few.ensures.0;
       apart = c.count-words.ensures;
     } in
-    refuses counted _ (sym c.holds.ensures ∙ c.if-holds.false) _ c.refused.ensures
+    refuses counted _ (sym c.holds.ensures ∙ c.if-holds.false) _ refl

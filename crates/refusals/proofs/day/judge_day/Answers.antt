@@ -1,4 +1,5 @@
 -- Room, settings and state are blocks, each judged by itself; the list of bars comes last.
+use Rattle.std.specs.Prelude.{◌≡◌, Err}
 use Rattle.words.specs.Prelude.{refl, sym, ◌∙◌, rules}
 use Rattle.records.specs.{Lent.rooms}
 use Rattle.refusals.specs.{Day.day_lines, Laws.Fine.settings_fine}
@@ -9,33 +10,37 @@ pub judge_room-requires : goal.judge_room-requires
 unfolding day_lines
 judge_room-requires c = search rules
 
-pub returns-in-Err : goal.returns-in-Err
+pub returns-in_err-judge_room : goal.returns-in_err-judge_room
 unfolding day_lines
-returns-in-Err c = stop_block top _ _ c.judge_room.ensures refl c.in-Err.is
+returns-in_err-judge_room c =
+    let given : c.from_residual.result ≡ Err c.in_err-judge_room.field-0.0 = search rules in
+    given ∙ stop_block top _ _ c.judge_room.ensures refl c.in_err-judge_room.was
 
 pub judge_settings-requires : goal.judge_settings-requires
 unfolding day_lines
 judge_settings-requires c = search rules
 
-pub returns-in-Err-judge_settings : goal.returns-in-Err-judge_settings
+pub returns-in_err-judge_settings : goal.returns-in_err-judge_settings
 unfolding day_lines
-returns-in-Err-judge_settings c =
+returns-in_err-judge_settings c =
     let past1 : (let a = c.args in
-    Below (day_lines a.span a.s a.t a.bars.now (rooms a.rows.now a.equity.now a.trades.now))) = past_block top _ _ c.judge_room.ensures refl c.in_default.is in
-    stop_block past1 _ _ c.judge_settings.ensures refl c.in-Err-judge_settings.is
+    Below (day_lines a.span a.s a.t a.bars.now (rooms a.rows.now a.equity.now a.trades.now))) = past_block top _ _ c.judge_room.ensures refl c.in_ok-judge_room.was in
+    let given : c.from_residual-in_err-judge_settings.result ≡ Err c.in_err-judge_settings.field-0.0 = search rules in
+    given ∙ stop_block past1 _ _ c.judge_settings.ensures refl c.in_err-judge_settings.was
 
 pub judge_state-requires : goal.judge_state-requires
 unfolding day_lines
 judge_state-requires c = search rules
 
-pub returns-in-Err-judge_state : goal.returns-in-Err-judge_state
+pub returns-in_err-judge_state : goal.returns-in_err-judge_state
 unfolding day_lines
-returns-in-Err-judge_state c =
+returns-in_err-judge_state c =
     let past2 : (let a = c.args in
     Below (day_lines a.span a.s a.t a.bars.now (rooms a.rows.now a.equity.now a.trades.now))) = let past1 : (let a = c.args in
-    Below (day_lines a.span a.s a.t a.bars.now (rooms a.rows.now a.equity.now a.trades.now))) = past_block top _ _ c.judge_room.ensures refl c.in_default.is in
-    past_block past1 _ _ c.judge_settings.ensures refl c.in_default-judge_settings.is in
-    stop_block past2 _ _ c.judge_state.ensures refl c.in-Err-judge_state.is
+    Below (day_lines a.span a.s a.t a.bars.now (rooms a.rows.now a.equity.now a.trades.now))) = past_block top _ _ c.judge_room.ensures refl c.in_ok-judge_room.was in
+    past_block past1 _ _ c.judge_settings.ensures refl c.in_ok-judge_settings.was in
+    let given : c.from_residual-in_err-judge_state.result ≡ Err c.in_err-judge_state.field-0.0 = search rules in
+    given ∙ stop_block past2 _ _ c.judge_state.ensures refl c.in_err-judge_state.was
 
 pub are_for-requires : goal.are_for-requires
 are_for-requires c = (settings_fine c.args.s (sym c.judge_settings.ensures ∙ c.in_default-judge_settings.is)).slots
@@ -46,9 +51,9 @@ returns-then-are_for c =
     let past3 : (let a = c.args in
     Below (day_lines a.span a.s a.t a.bars.now (rooms a.rows.now a.equity.now a.trades.now))) = let past2 : (let a = c.args in
     Below (day_lines a.span a.s a.t a.bars.now (rooms a.rows.now a.equity.now a.trades.now))) = let past1 : (let a = c.args in
-    Below (day_lines a.span a.s a.t a.bars.now (rooms a.rows.now a.equity.now a.trades.now))) = past_block top _ _ c.judge_room.ensures refl c.in_default.is in
-    past_block past1 _ _ c.judge_settings.ensures refl c.in_default-judge_settings.is in
-    past_block past2 _ _ c.judge_state.ensures refl c.in_default-judge_state.is in
+    Below (day_lines a.span a.s a.t a.bars.now (rooms a.rows.now a.equity.now a.trades.now))) = past_block top _ _ c.judge_room.ensures refl c.in_ok-judge_room.was in
+    past_block past1 _ _ c.judge_settings.ensures refl c.in_ok-judge_settings.was in
+    past_block past2 _ _ c.judge_state.ensures refl c.in_ok-judge_state.was in
     all_hold (past past3 refl (sym c.are_for.ensures ∙ c.if-are_for.true)) refl
 
 pub returns : goal.returns
@@ -57,7 +62,7 @@ returns c =
     let past3 : (let a = c.args in
     Below (day_lines a.span a.s a.t a.bars.now (rooms a.rows.now a.equity.now a.trades.now))) = let past2 : (let a = c.args in
     Below (day_lines a.span a.s a.t a.bars.now (rooms a.rows.now a.equity.now a.trades.now))) = let past1 : (let a = c.args in
-    Below (day_lines a.span a.s a.t a.bars.now (rooms a.rows.now a.equity.now a.trades.now))) = past_block top _ _ c.judge_room.ensures refl c.in_default.is in
-    past_block past1 _ _ c.judge_settings.ensures refl c.in_default-judge_settings.is in
-    past_block past2 _ _ c.judge_state.ensures refl c.in_default-judge_state.is in
+    Below (day_lines a.span a.s a.t a.bars.now (rooms a.rows.now a.equity.now a.trades.now))) = past_block top _ _ c.judge_room.ensures refl c.in_ok-judge_room.was in
+    past_block past1 _ _ c.judge_settings.ensures refl c.in_ok-judge_settings.was in
+    past_block past2 _ _ c.judge_state.ensures refl c.in_ok-judge_state.was in
     stop past3 refl (sym c.are_for.ensures ∙ c.if-are_for.false)

@@ -1,5 +1,6 @@
 -- Line by line: those of setting 1 are one test, then two blocks, those of terms and those of entries.
-use Rattle.words.specs.Prelude.{refl, lt-leb, le-leb, rules}
+use Rattle.std.specs.Prelude.{◌≡◌, Err}
+use Rattle.words.specs.Prelude.{refl, lt-leb, le-leb, rules, ◌∙◌}
 use Rattle.refusals.specs.{Settings.setting_lines}
 use Rattle.refusals.specs.Laws.Descent.{so, not_so, Below, top, past, stop, past_block, stop_block, last_block}
 use Rattle.refusals.proofs.setting.judge_settings.Goals as goal
@@ -33,13 +34,14 @@ pub judge_terms-requires : goal.judge_terms-requires
 unfolding setting_lines
 judge_terms-requires c = search rules
 
-pub returns-in-Err : goal.returns-in-Err
+pub returns-in_err-judge_terms : goal.returns-in_err-judge_terms
 unfolding setting_lines
-returns-in-Err c =
+returns-in_err-judge_terms c =
     let past3 : (Below (setting_lines c.args.s)) = let past2 : (Below (setting_lines c.args.s)) = let past1 : (Below (setting_lines c.args.s)) = past top refl (le-leb _ _ c.if-s-gt-MOST_SLOTS.false) in
     past past1 refl (so c.depth_fine.ensures c.if-not-depth_fine.false-raw) in
     past past2 refl (so c.is_finite.ensures c.if-not-is_finite.false-raw) in
-    stop_block past3 _ _ c.judge_terms.ensures refl c.in-Err.is
+    let given : c.from_residual.result ≡ Err c.in_err-judge_terms.field-0.0 = search rules in
+    given ∙ stop_block past3 _ _ c.judge_terms.ensures refl c.in_err-judge_terms.was
 
 pub judge_entries-requires : goal.judge_entries-requires
 unfolding setting_lines
@@ -51,5 +53,5 @@ returns c =
     let past4 : (Below (setting_lines c.args.s)) = let past3 : (Below (setting_lines c.args.s)) = let past2 : (Below (setting_lines c.args.s)) = let past1 : (Below (setting_lines c.args.s)) = past top refl (le-leb _ _ c.if-s-gt-MOST_SLOTS.false) in
     past past1 refl (so c.depth_fine.ensures c.if-not-depth_fine.false-raw) in
     past past2 refl (so c.is_finite.ensures c.if-not-is_finite.false-raw) in
-    past_block past3 _ _ c.judge_terms.ensures refl c.in_default.is in
+    past_block past3 _ _ c.judge_terms.ensures refl c.in_ok-judge_terms.was in
     last_block past4 c.judge_entries.ensures
