@@ -4,7 +4,6 @@ use Rattle.words.specs.{Limits.most_count}
 use Rattle.floats.specs.{Floats.float_of, Floats.finite}
 use Rattle.blocks.specs.{Blocks.block_bars, Blocks.block_words, Blocks.put, Blocks.grown}
 use Rattle.words.specs.{declared.refusal.Refusal.Refusal}
-use Rattle.words.specs.declared.refusal.Refusal.TheVariants as Refusal
 
 -- what an append answers, and both rooms as it leaves them
 pub record Append : Type 0 where

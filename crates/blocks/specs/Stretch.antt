@@ -4,7 +4,6 @@ use Rattle.words.specs.{Limits.most_count}
 use Rattle.blocks.specs.{Blocks.block_bars, Blocks.block_words, Reads.reads, Reads.told}
 use Rattle.blocks.specs.{declared.best.Best.Best}
 use Rattle.words.specs.{declared.refusal.Refusal.Refusal}
-use Rattle.words.specs.declared.refusal.Refusal.TheVariants as Refusal
 
 -- "13 | counts .. exceed the rooms or 4,294,967,295": each bar has its close, and its block
 abbrev pub holds : ℕ → List ℕ → List ℕ → Bool

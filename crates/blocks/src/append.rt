@@ -40,7 +40,12 @@ fn put_bar(closes: &mut [u64], blocks: &mut [u64], held: usize, close: u64)
 
 // Appends a close to the bars held: 10 where a room has no place for it, then 11 where it is not finite.
 #[tactic(auto, unfolding(crate::specs::Append::appended))]
-pub fn append(held: usize, close: u64, closes: &mut [u64], blocks: &mut [u64]) -> Result<usize, Refusal>
+pub fn append(
+    held: usize,
+    close: u64,
+    closes: &mut [u64],
+    blocks: &mut [u64],
+) -> Result<usize, Refusal>
     ensures { appended held close closes.old blocks.old
         ≡ record { answer = result; closes = closes.new; blocks = blocks.new } }
 {

@@ -25,7 +25,13 @@ fn exists(held: usize, first: usize, last: usize) -> bool
 
 // The high and the low of the bars from `first` to `last`: 13 where the rooms do not hold the bars, then 18 where these are none.
 #[tactic(auto, unfolding(crate::specs::Stretch::stretched))]
-pub fn stretch(held: usize, first: usize, last: usize, closes: &[u64], blocks: &[u64]) -> Result<Best, Refusal>
+pub fn stretch(
+    held: usize,
+    first: usize,
+    last: usize,
+    closes: &[u64],
+    blocks: &[u64],
+) -> Result<Best, Refusal>
     ensures { result ≡ Stretch.stretched held first last closes.now blocks.now }
 {
     if !holds(held, closes, blocks) {
