@@ -117,9 +117,9 @@ impl Portfolio {
     pub fn apply_funding(mut self, payment: f64) -> Portfolio
         ensures { result ≡ funded self payment }
     {
-        self.cash = self.cash - payment;
-        self.fees_paid = self.fees_paid + payment;
-        self.funding = self.funding + payment;
+        self.cash -= payment;
+        self.fees_paid += payment;
+        self.funding += payment;
         self
     }
 
@@ -129,14 +129,8 @@ impl Portfolio {
     {
         if self.in_position() {
             return Portfolio {
-                cash: self.cash,
-                qty: self.qty,
-                entry_price: self.entry_price,
-                entry_time: self.entry_time,
-                entry_fee: self.entry_fee,
-                fees_paid: self.fees_paid,
-                funding: self.funding,
                 worst: worse(candle, self.worst, self.is_long()),
+                ..self
             };
         }
         self
@@ -169,12 +163,9 @@ impl Portfolio {
             portfolio: Portfolio {
                 cash: self.cash + (self.qty * price - fee),
                 qty: 0.0,
-                entry_price: self.entry_price,
-                entry_time: self.entry_time,
                 entry_fee: 0.0,
                 fees_paid: self.fees_paid + fee,
-                funding: self.funding,
-                worst: self.worst,
+                ..self
             },
             trade: Trade {
                 entry_time: self.entry_time,

@@ -13,12 +13,11 @@ use crate::sum::{SUM_WORDS, shift_all};
 fn top(words: &[u64], n: usize) -> usize
     ensures { Top words.now n result }
 {
-    let mut t = n;
-    while 0 < t {
+    for i in 0..n {
+        let t = n - i;
         if words::word(words, t - 1) != 0 {
             return t;
         }
-        t = t - 1;
     }
     0
 }

@@ -1,4 +1,4 @@
-use Rattle.words.specs.Prelude.{◌≡◌, refl, sym, ap, ◌∙◌, List, ℕ, suc, ◌+◌, ◌-◌, ◌*◌, ◌<◌, zero-mul, add-zero, lt_irrefl, arith, rules, take, get_or}
+use Rattle.words.specs.Prelude.{◌≡◌, sym, ap, ◌∙◌, List, ℕ, suc, ◌+◌, ◌-◌, ◌*◌, ◌<◌, zero-mul, add-zero, lt_irrefl, arith, take, get_or}
 use Rattle.totals.specs.{Number.number_of, Number.place}
 use Rattle.totals.proofs.{Digits.number_take}
 use Rattle.totals.proofs.nearest.top.Goals as goal
@@ -15,27 +15,31 @@ less ws t p e =
 positive : (x y : ℕ) → x ≡ y → (x ≡ 0 → ⊥) → 0 < y
 positive x y e h = omega arith
 
-pub loop-t-init : goal.loop-t-init
-loop-t-init c = (search rules, refl)
+pub loop-i-init : goal.loop-i-init
+loop-i-init c =
+    let all : c.args.n ≡ c.args.n - 0 = omega arith in
+    ap (λ (z : ℕ). number_of (take z c.args.words.now)) all
 
 pub returns-then-word-ne0 : goal.returns-then-word-ne0
 returns-then-word-ne0 c =
-    let l = c.loop-t in
+    let l = c.loop-i in
     let w = c.word in
-    record { most = l.invariant.0; same = l.invariant.1; some = λ (p : 0 < l.t). positive _ _ w.ensures c.if-word-ne0.true }
+    record { most = omega arith; same = l.invariant; some = λ (p : 0 < c.args.n - l.i). positive _ _ w.ensures c.if-word-ne0.true }
 
-pub loop-t-preserved : goal.loop-t-preserved
-loop-t-preserved c =
-    let l = c.loop-t in
+pub loop-i-preserved : goal.loop-i-preserved
+loop-i-preserved c =
+    let l = c.loop-i in
     let start = c.args in
-    (omega arith, l.invariant.1 ∙ less start.words.now l.t (search rules) (sym c.word.ensures ∙ c.if-word-ne0.false))
+    let next : start.n - l.i - 1 ≡ start.n - (l.i + 1) = omega arith in
+    l.invariant ∙ less start.words.now (start.n - l.i) (omega arith) (sym c.word.ensures ∙ c.if-word-ne0.false)
+    ∙ ap (λ (z : ℕ). number_of (take z start.words.now)) next
 
 pub returns : goal.returns
 returns c =
-    let l = c.loop-t in
-    let none : l.t ≡ 0 = omega arith in
+    let l = c.loop-i in
+    let none : c.args.n - l.i ≡ 0 = omega arith in
     record {
       most = omega arith;
-      same = l.invariant.1 ∙ ap (λ (z : ℕ). number_of (take z c.args.words.now)) none;
+      same = l.invariant ∙ ap (λ (z : ℕ). number_of (take z c.args.words.now)) none;
       some = λ (p : 0 < 0). absurd (lt_irrefl 0 p);
     }
