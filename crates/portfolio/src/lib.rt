@@ -66,6 +66,7 @@ pub const LIQUIDATION: u64 = 5;
 pub const END: u64 = 6;
 
 // The less favourable of a price and a bar's: its low for a long, its high for a short.
+#[tactic(auto, unfolding(crate::specs::Portfolio::worse))]
 fn worse(candle: Candle, price: f64, long: bool) -> f64
     ensures { result ≡ worse candle price long }
 {
@@ -77,6 +78,7 @@ fn worse(candle: Candle, price: f64, long: bool) -> f64
 
 impl Portfolio {
     // A portfolio with cash of starting capital.
+    #[tactic(auto, unfolding(crate::specs::Portfolio::fresh))]
     pub fn new(cash: f64) -> Portfolio
         ensures { result ≡ fresh cash }
     {
@@ -93,6 +95,7 @@ impl Portfolio {
     }
 
     // Whether a position is open.
+    #[tactic(auto, unfolding(crate::specs::Portfolio::in_position))]
     pub fn in_position(self) -> bool
         ensures { result ≡ in_position self }
     {
@@ -100,6 +103,7 @@ impl Portfolio {
     }
 
     // Whether the position is long.
+    #[tactic(auto, unfolding(crate::specs::Portfolio::is_long))]
     pub fn is_long(self) -> bool
         ensures { result ≡ is_long self }
     {
@@ -107,6 +111,7 @@ impl Portfolio {
     }
 
     // What the portfolio is worth at the price mark.
+    #[tactic(auto, unfolding(crate::specs::Portfolio::equity))]
     pub fn equity(self, mark: f64) -> f64
         ensures { result ≡ equity self mark }
     {
@@ -114,6 +119,7 @@ impl Portfolio {
     }
 
     // A funding payment leaves cash, and counts among the fees and in the open trade's funding; below 0 it is received.
+    #[tactic(auto, unfolding(crate::specs::Portfolio::funded))]
     pub fn apply_funding(mut self, payment: f64) -> Portfolio
         ensures { result ≡ funded self payment }
     {
@@ -124,6 +130,7 @@ impl Portfolio {
     }
 
     // The open position's least favourable price takes a bar: its low for a long, its high for a short.
+    #[tactic(auto, unfolding(crate::specs::Portfolio::worsened))]
     pub fn worsen(self, candle: Candle) -> Portfolio
         ensures { result ≡ worsened self candle }
     {
@@ -137,6 +144,7 @@ impl Portfolio {
     }
 
     // A position of qty opened at price, paying fee.
+    #[tactic(auto, unfolding(crate::specs::Portfolio::entered))]
     pub fn enter(self, qty: f64, price: f64, time: u64, fee: f64) -> Portfolio
         ensures { result ≡ entered self qty price time fee }
     {
@@ -153,6 +161,7 @@ impl Portfolio {
     }
 
     // The open position closed at price, paying fee, with the trade.
+    #[tactic(auto, unfolding(crate::specs::Portfolio::exited, crate::specs::Portfolio::trade_of, crate::specs::Portfolio::notional, crate::specs::Portfolio::pnl))]
     pub fn exit(self, price: f64, time: u64, fee: f64, reason: u64) -> Closed
         ensures { result ≡ exited self price time fee reason }
     {
@@ -185,6 +194,7 @@ impl Portfolio {
 
 impl Trade {
     // The trade as its words: in the Rust record's order, then the two that the Rust has not.
+    #[tactic(auto, unfolding(crate::specs::Trade::words_of_trade))]
     pub fn words(self) -> [u64; words::limits::TRADE_WORDS]
         ensures { result ≡ words_of_trade self }
     {
