@@ -35,7 +35,7 @@ fn byte_from(line: &[u64], i: usize) -> u8
     ((word >> (56 - 8 * (i % 8))) % 256) as u8
 }
 
-// The same as `fill` for a room of bytes.
+// The same as `fill` for a room of bytes. (Two functions: they share only the loop, since each reads its line in its own way.)
 pub fn fill_bytes(room: &mut [u8], line: &[u64])
     ensures { room.new ≡ filled_bytes room.old line.now }
 {
