@@ -161,7 +161,6 @@ impl Portfolio {
     }
 
     // The open position closed at price, paying fee, with the trade.
-    #[tactic(auto, unfolding(crate::specs::Portfolio::exited, crate::specs::Portfolio::trade_of, crate::specs::Portfolio::notional, crate::specs::Portfolio::pnl))]
     pub fn exit(self, price: f64, time: u64, fee: f64, reason: u64) -> Closed
         ensures { result ≡ exited self price time fee reason }
     {
