@@ -2,7 +2,6 @@
 // Reads a rule table from standard input and writes how much row room its rules need: the rows, the bytes of a row, and the bytes of
 // the window and of a dump. The argument is the lookback of a volatility target, which needs one row more than it says where that is more; with
 // none it is 0. The stored input is the worked example of document 01, with a lookback of 10.
-ghost use Rattle.std.specs.Prelude.{◌<◌};
 use needed::depth::Needs;
 use std::env::Env;
 use std::io;

@@ -1,5 +1,5 @@
 // Nodes, what the table of kinds says of them, and rule 6: their own bytes.
-ghost use Rattle.std.specs.Prelude.{◌≡◌, ◌<◌};
+ghost use Rattle.std.specs.Prelude.{◌≡◌};
 ghost use Rattle.table.specs.Kinds.{kind_of};
 ghost use Rattle.table.specs.Nodes.{node_at, kind_right, children_right, n_right, constant_right, fields_right, own_right, wrong_node};
 ghost use Rattle.table.specs.Nodes.{sort_at, child_count, child_count_at, child_fits};

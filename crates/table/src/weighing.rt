@@ -1,6 +1,6 @@
 // What rules 8 and 9 share: what each subtree weighs, from a tree's last node to its first. A node's weight is 1 where levels
 // are counted, and what it adds to the reach where bars are. Weights are capped at 4,096, so no sum wraps.
-ghost use Rattle.std.specs.Prelude.{◌≡◌, ◌+◌, ◌-◌, ◌≤◌, ◌<◌, min, max};
+ghost use Rattle.std.specs.Prelude.{◌≡◌, ◌+◌, ◌≤◌, ◌<◌, min};
 ghost use Rattle.words.specs.Limits.{most_nodes, most_rows};
 ghost use Rattle.table.specs.Nodes.{node_at};
 ghost use Rattle.table.specs.Reach.{back};
