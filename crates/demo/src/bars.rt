@@ -1,6 +1,6 @@
 // A day of minute bars, made up: a price that wanders and turns every three hours, in whole cents, and two averages of
 // it, one quick and one slow, as the caller of the engine would supply them.
-ghost use Rattle.std.specs.Prelude.{◌≤◌};
+ghost use Rattle.std.specs.Prelude.{◌≡◌, ◌≤◌, min, max};
 
 // A day of minutes.
 const MINUTES: usize = 1440;

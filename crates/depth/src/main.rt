@@ -33,7 +33,11 @@ fn digit(byte: u8) -> Option<u8> {
 
 // The number with one digit more.
 fn with_digit(n: u64, digit: u8) -> u64 {
-    if n < LARGE { 10 * n + u64::from(digit) } else { n }
+    if n < LARGE {
+        10 * n + u64::from(digit)
+    } else {
+        n
+    }
 }
 
 fn lookback_of(argument: &[u8]) -> Lookback {
