@@ -4,27 +4,6 @@ use crate::rooms::word;
 use std::io;
 use std::io::Write;
 
-fn compare_call(
-    other_trades: &[u64],
-    sizes: &[u64],
-    other_equity: &[u64],
-    equity: &[u64],
-    trades: &[u64],
-    lines: &mut [u64],
-    count: &mut u64,
-) -> u64 {
-    let from: usize = 0;
-    let l = rooms::lent(sizes, rooms::DIFFERENCES, lines.len());
-    capi::compare::ysh_compare(
-        rooms::words_of(sizes, rooms::EQUITY, equity),
-        rooms::words_of(sizes, rooms::TRADES, trades),
-        rooms::words_of(sizes, rooms::ROWS, other_equity),
-        other_trades,
-        &mut lines[from..l],
-        count,
-    )
-}
-
 // Word 1 is what the count holds before, the words after it are the other run's trades; its equity stands in the room of rows. The answer, the
 // lines and the count, as they are then whatever the answer.
 pub(crate) fn compare(
@@ -38,13 +17,13 @@ pub(crate) fn compare(
 ) -> io::Result<()> {
     let mut count = word(line, 1);
     let other_trades = text::rooms::part(line, 2, line.len());
-    let answer = compare_call(
+    let lent = rooms::lent(sizes, rooms::DIFFERENCES, lines.len());
+    let answer = capi::compare::ysh_compare(
+        rooms::words_of(sizes, rooms::EQUITY, equity),
+        rooms::words_of(sizes, rooms::TRADES, trades),
+        rooms::words_of(sizes, rooms::ROWS, other_equity),
         other_trades,
-        sizes,
-        other_equity,
-        equity,
-        trades,
-        lines,
+        &mut lines[..lent],
         &mut count,
     );
     text::write_words(output, &[answer], b' ')?;

@@ -34,11 +34,11 @@ pub(crate) fn rule(
     table: &[u8],
     rows: &[u64],
 ) -> io::Result<()> {
-    let entry = rule_of(table, 0, rows, line);
-    let exit = rule_of(table, 1, rows, line);
-    let short_entry = rule_of(table, 2, rows, line);
-    let short_exit = rule_of(table, 3, rows, line);
-    text::write_words(output, &[entry, exit, short_entry, short_exit], b'\n')
+    let mut says = [0u64; 4];
+    for (tree, said) in says.iter_mut().enumerate() {
+        *said = rule_of(table, tree as u64, rows, line);
+    }
+    text::write_words(output, &says, b'\n')
 }
 
 // The same for a list of steps, with the visits; words 5 and 6 are K and D.
@@ -74,23 +74,13 @@ pub(crate) fn run(
     rows: &[u64],
     lists: &[u8],
 ) -> io::Result<()> {
-    let entry = run_of(rooms::list(sizes, 0, lists), rows, line);
-    let exit = run_of(rooms::list(sizes, 1, lists), rows, line);
-    let short_entry = run_of(rooms::list(sizes, 2, lists), rows, line);
-    let short_exit = run_of(rooms::list(sizes, 3, lists), rows, line);
-    text::write_words(
-        output,
-        &[entry.said, exit.said, short_entry.said, short_exit.said],
-        b' ',
-    )?;
-    text::write_words(
-        output,
-        &[
-            entry.visits,
-            exit.visits,
-            short_entry.visits,
-            short_exit.visits,
-        ],
-        b'\n',
-    )
+    let mut says = [0u64; 4];
+    let mut visits = [0u64; 4];
+    for tree in 0..4 {
+        let ran = run_of(rooms::list(sizes, tree as u64, lists), rows, line);
+        says[tree] = ran.said;
+        visits[tree] = ran.visits;
+    }
+    text::write_words(output, &says, b' ')?;
+    text::write_words(output, &visits, b'\n')
 }

@@ -14,26 +14,6 @@ pub(crate) fn dump_bytes(output: &mut impl Write, line: &[u64]) -> io::Result<()
     )
 }
 
-fn dump_call(
-    line: &[u64],
-    sizes: &[u64],
-    settings: &[u64],
-    state: &[u64],
-    rows: &[u64],
-    area: &mut [u8],
-) -> u64 {
-    let from: usize = 0;
-    let a = rooms::lent(sizes, rooms::AREA, area.len());
-    capi::power::ysh_dump(
-        rooms::words_of(sizes, rooms::SETTINGS, settings),
-        rooms::words_of(sizes, rooms::STATE, state),
-        rooms::words_of(sizes, rooms::ROWS, rows),
-        &mut area[from..a],
-        word(line, 1),
-        word(line, 2),
-    )
-}
-
 // Words 1 and 2 are from and upto. The answer and the area, as it is then whatever the answer.
 pub(crate) fn dump(
     output: &mut impl Write,
@@ -44,33 +24,17 @@ pub(crate) fn dump(
     rows: &[u64],
     area: &mut [u8],
 ) -> io::Result<()> {
-    let answer = dump_call(line, sizes, settings, state, rows, area);
-    write!(output, "{answer:016x}")?;
-    write_bytes(
-        output,
-        text::rooms::part(area, 0, rooms::lent(sizes, rooms::AREA, area.len())),
-    )
-}
-
-fn part_call(
-    line: &[u64],
-    sizes: &[u64],
-    settings: &[u64],
-    state: &[u64],
-    rows: &[u64],
-    area: &mut [u8],
-    used: &mut u64,
-) -> u64 {
-    let from: usize = 0;
-    let a = rooms::lent(sizes, rooms::AREA, area.len());
-    capi::part::ysh_dump_part(
+    let lent = rooms::lent(sizes, rooms::AREA, area.len());
+    let answer = capi::power::ysh_dump(
         rooms::words_of(sizes, rooms::SETTINGS, settings),
         rooms::words_of(sizes, rooms::STATE, state),
         rooms::words_of(sizes, rooms::ROWS, rows),
+        &mut area[..lent],
         word(line, 1),
-        &mut area[from..a],
-        used,
-    )
+        word(line, 2),
+    );
+    write!(output, "{answer:016x}")?;
+    write_bytes(output, &area[..lent])
 }
 
 // Word 1 is the place of the first byte, word 2 what the count holds before. The answer, the count and the area, which is the part.
@@ -84,31 +48,18 @@ pub(crate) fn part(
     area: &mut [u8],
 ) -> io::Result<()> {
     let mut used = word(line, 2);
-    let answer = part_call(line, sizes, settings, state, rows, area, &mut used);
+    let lent = rooms::lent(sizes, rooms::AREA, area.len());
+    let answer = capi::part::ysh_dump_part(
+        rooms::words_of(sizes, rooms::SETTINGS, settings),
+        rooms::words_of(sizes, rooms::STATE, state),
+        rooms::words_of(sizes, rooms::ROWS, rows),
+        word(line, 1),
+        &mut area[..lent],
+        &mut used,
+    );
     text::write_words(output, &[answer], b' ')?;
     write!(output, "{used:016x}")?;
-    write_bytes(
-        output,
-        text::rooms::part(area, 0, rooms::lent(sizes, rooms::AREA, area.len())),
-    )
-}
-
-fn restore_call(
-    sizes: &[u64],
-    settings: &[u64],
-    state: &mut [u64],
-    rows: &mut [u64],
-    area: &[u8],
-) -> u64 {
-    let from: usize = 0;
-    let s = rooms::lent(sizes, rooms::STATE, state.len());
-    let r = rooms::lent(sizes, rooms::ROWS, rows.len());
-    capi::power::ysh_restore(
-        rooms::words_of(sizes, rooms::SETTINGS, settings),
-        &mut state[from..s],
-        text::rooms::part(area, 0, rooms::lent(sizes, rooms::AREA, area.len())),
-        &mut rows[from..r],
-    )
+    write_bytes(output, &area[..lent])
 }
 
 // The answer, the state and the rows, as they are then whatever the answer.
@@ -120,7 +71,14 @@ pub(crate) fn restore(
     rows: &mut [u64],
     area: &[u8],
 ) -> io::Result<()> {
-    let answer = restore_call(sizes, settings, state, rows, area);
+    let s = rooms::lent(sizes, rooms::STATE, state.len());
+    let r = rooms::lent(sizes, rooms::ROWS, rows.len());
+    let answer = capi::power::ysh_restore(
+        rooms::words_of(sizes, rooms::SETTINGS, settings),
+        &mut state[..s],
+        &area[..rooms::lent(sizes, rooms::AREA, area.len())],
+        &mut rows[..r],
+    );
     text::write_words(output, &[answer], b' ')?;
     text::write_words(output, rooms::words_of(sizes, rooms::STATE, state), b' ')?;
     text::write_words(output, rooms::words_of(sizes, rooms::ROWS, rows), b'\n')

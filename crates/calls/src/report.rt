@@ -14,15 +14,6 @@ fn write_totals(
     text::write_words(output, rooms::words_of(sizes, rooms::TOTALS, totals), b'\n')
 }
 
-fn totals_call(sizes: &[u64], totals: &mut [u64], trades: &[u64]) -> u64 {
-    let from: usize = 0;
-    let t = rooms::lent(sizes, rooms::TOTALS, totals.len());
-    capi::report::ysh_totals(
-        &mut totals[from..t],
-        rooms::words_of(sizes, rooms::TRADES, trades),
-    )
-}
-
 // The answer and the totals.
 pub(crate) fn totals(
     output: &mut impl Write,
@@ -30,14 +21,12 @@ pub(crate) fn totals(
     totals: &mut [u64],
     trades: &[u64],
 ) -> io::Result<()> {
-    let answer = totals_call(sizes, totals, trades);
+    let lent = rooms::lent(sizes, rooms::TOTALS, totals.len());
+    let answer = capi::report::ysh_totals(
+        &mut totals[..lent],
+        rooms::words_of(sizes, rooms::TRADES, trades),
+    );
     write_totals(output, answer, sizes, totals)
-}
-
-fn join_call(other: &[u64], sizes: &[u64], totals: &mut [u64]) -> u64 {
-    let from: usize = 0;
-    let t = rooms::lent(sizes, rooms::TOTALS, totals.len());
-    capi::report::ysh_totals_join(&mut totals[from..t], other)
 }
 
 // The words after the first are the other totals. The answer and the totals.
@@ -48,6 +37,7 @@ pub(crate) fn join(
     totals: &mut [u64],
 ) -> io::Result<()> {
     let other = text::rooms::part(line, 1, line.len());
-    let answer = join_call(other, sizes, totals);
+    let lent = rooms::lent(sizes, rooms::TOTALS, totals.len());
+    let answer = capi::report::ysh_totals_join(&mut totals[..lent], other);
     write_totals(output, answer, sizes, totals)
 }

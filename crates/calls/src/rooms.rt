@@ -54,8 +54,7 @@ pub(crate) fn set_size(sizes: &mut [u64], i: u64, n: u64) {
 pub(crate) fn lent(sizes: &[u64], i: usize, most: usize) -> usize
     ensures { result ≤ most }
 {
-    let n = size(sizes, i);
-    if n < most { n } else { most }
+    size(sizes, i).min(most)
 }
 
 // The first part of room i.

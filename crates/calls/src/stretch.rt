@@ -4,19 +4,6 @@ use crate::rooms::word;
 use std::io;
 use std::io::Write;
 
-fn append_call(
-    close: u64,
-    sizes: &[u64],
-    closes: &mut [u64],
-    blocks: &mut [u64],
-    held: &mut u64,
-) -> u64 {
-    let from: usize = 0;
-    let c = rooms::lent(sizes, rooms::CLOSES, closes.len());
-    let b = rooms::lent(sizes, rooms::BLOCKS, blocks.len());
-    capi::stretch::ysh_append(held, close, &mut closes[from..c], &mut blocks[from..b])
-}
-
 // Word 1 is the bars held, word 2 the close. The answer, the bars held, the closes and the blocks, as they are then whatever the answer.
 pub(crate) fn append(
     output: &mut impl Write,
@@ -26,7 +13,14 @@ pub(crate) fn append(
     blocks: &mut [u64],
 ) -> io::Result<()> {
     let mut held = word(line, 1);
-    let answer = append_call(word(line, 2), sizes, closes, blocks, &mut held);
+    let c = rooms::lent(sizes, rooms::CLOSES, closes.len());
+    let b = rooms::lent(sizes, rooms::BLOCKS, blocks.len());
+    let answer = capi::stretch::ysh_append(
+        &mut held,
+        word(line, 2),
+        &mut closes[..c],
+        &mut blocks[..b],
+    );
     text::write_words(output, &[answer, held], b' ')?;
     text::write_words(output, rooms::words_of(sizes, rooms::CLOSES, closes), b' ')?;
     text::write_words(output, rooms::words_of(sizes, rooms::BLOCKS, blocks), b'\n')

@@ -47,22 +47,6 @@ fn list_silent(
     text::write_words(output, &[count], b'\n')
 }
 
-// Lends so many words of a room.
-fn silent_in(
-    output: &mut impl Write,
-    table: &[u8],
-    rows: u64,
-    size: u64,
-    room: &mut [u64],
-) -> io::Result<()> {
-    let from: usize = 0;
-    let to = size as usize;
-    if room.len() < to {
-        return text::write_words(output, &[NO_ROOM], b'\n');
-    }
-    list_silent(output, table, rows, &mut room[from..to])
-}
-
 // Word 1 is the rows, word 2 how many words are lent, each with every bit set.
 pub(crate) fn silent(
     output: &mut impl Write,
@@ -71,13 +55,11 @@ pub(crate) fn silent(
     room: &[u8],
 ) -> io::Result<()> {
     let mut list = [u64::MAX; words::limits::MOST_NODES];
-    silent_in(
-        output,
-        table(sizes, room),
-        word(line, 1),
-        word(line, 2),
-        &mut list,
-    )
+    let size = word(line, 2) as usize;
+    if list.len() < size {
+        return text::write_words(output, &[NO_ROOM], b'\n');
+    }
+    list_silent(output, table(sizes, room), word(line, 1), &mut list[..size])
 }
 
 // Translates a tree into so many bytes of the room of its list.
@@ -94,18 +76,13 @@ fn translated(table: &[u8], tree: u64, lists: &mut [u8], size: u64, used: &mut u
     capi::tables::ysh_translate(table, tree, &mut lists[from..to], used)
 }
 
-fn wide(byte: u8) -> u64 {
-    byte as u64
-}
-
 // Writes the bytes, a space before each eight of them, and a newline.
 pub(crate) fn write_bytes(output: &mut impl Write, bytes: &[u8]) -> io::Result<()> {
     for (i, byte) in bytes.iter().enumerate() {
         if i % 8 == 0 {
             output.write_all(b" ")?;
         }
-        let value = wide(*byte);
-        write!(output, "{value:02x}")?;
+        write!(output, "{byte:02x}")?;
     }
     output.write_all(b"\n")
 }

@@ -53,15 +53,6 @@ fn write_closed(
     }
 }
 
-fn fresh_call(sizes: &[u64], settings: &[u64], state: &mut [u64]) -> u64 {
-    let from: usize = 0;
-    let s = rooms::lent(sizes, rooms::STATE, state.len());
-    capi::state::ysh_fresh(
-        rooms::words_of(sizes, rooms::SETTINGS, settings),
-        &mut state[from..s],
-    )
-}
-
 // The answer and the state.
 pub(crate) fn fresh(
     output: &mut impl Write,
@@ -69,37 +60,12 @@ pub(crate) fn fresh(
     settings: &[u64],
     state: &mut [u64],
 ) -> io::Result<()> {
-    let answer = fresh_call(sizes, settings, state);
-    write_done(output, answer, rooms::words_of(sizes, rooms::STATE, state))
-}
-
-fn step_call(
-    bar: &[u64],
-    sizes: &[u64],
-    settings: &[u64],
-    state: &mut [u64],
-    rows: &mut [u64],
-    equity: &mut [u64],
-    trades: &mut [u64],
-    lists: &[u8],
-) -> u64 {
-    let from: usize = 0;
-    let s = rooms::lent(sizes, rooms::STATE, state.len());
-    let r = rooms::lent(sizes, rooms::ROWS, rows.len());
-    let e = rooms::lent(sizes, rooms::EQUITY, equity.len());
-    let t = rooms::lent(sizes, rooms::TRADES, trades.len());
-    capi::bars::ysh_step(
+    let lent = rooms::lent(sizes, rooms::STATE, state.len());
+    let answer = capi::state::ysh_fresh(
         rooms::words_of(sizes, rooms::SETTINGS, settings),
-        &mut state[from..s],
-        bar,
-        &mut rows[from..r],
-        &mut equity[from..e],
-        &mut trades[from..t],
-        rooms::list(sizes, 0, lists),
-        rooms::list(sizes, 1, lists),
-        rooms::list(sizes, 2, lists),
-        rooms::list(sizes, 3, lists),
-    )
+        &mut state[..lent],
+    );
+    write_done(output, answer, rooms::words_of(sizes, rooms::STATE, state))
 }
 
 // The words after the first are the bar. The answer, the equity point, and the trade where the bar closed one.
@@ -117,7 +83,22 @@ pub(crate) fn step(
     let points = word(state, POINTS);
     let closed = word(state, CLOSED);
     let bar = text::rooms::part(line, 1, line.len());
-    let answer = step_call(bar, sizes, settings, state, rows, equity, trades, lists);
+    let s = rooms::lent(sizes, rooms::STATE, state.len());
+    let r = rooms::lent(sizes, rooms::ROWS, rows.len());
+    let e = rooms::lent(sizes, rooms::EQUITY, equity.len());
+    let t = rooms::lent(sizes, rooms::TRADES, trades.len());
+    let answer = capi::bars::ysh_step(
+        rooms::words_of(sizes, rooms::SETTINGS, settings),
+        &mut state[..s],
+        bar,
+        &mut rows[..r],
+        &mut equity[..e],
+        &mut trades[..t],
+        rooms::list(sizes, 0, lists),
+        rooms::list(sizes, 1, lists),
+        rooms::list(sizes, 2, lists),
+        rooms::list(sizes, 3, lists),
+    );
     write_closed(
         output,
         answer,
@@ -125,37 +106,6 @@ pub(crate) fn step(
         closed,
         word(state, CLOSED),
         trades,
-    )
-}
-
-fn steps_call(
-    bars: &[u64],
-    sizes: &[u64],
-    settings: &[u64],
-    state: &mut [u64],
-    rows: &mut [u64],
-    equity: &mut [u64],
-    trades: &mut [u64],
-    lists: &[u8],
-    done: &mut u64,
-) -> u64 {
-    let from: usize = 0;
-    let s = rooms::lent(sizes, rooms::STATE, state.len());
-    let r = rooms::lent(sizes, rooms::ROWS, rows.len());
-    let e = rooms::lent(sizes, rooms::EQUITY, equity.len());
-    let t = rooms::lent(sizes, rooms::TRADES, trades.len());
-    capi::many::ysh_steps(
-        rooms::words_of(sizes, rooms::SETTINGS, settings),
-        &mut state[from..s],
-        bars,
-        &mut rows[from..r],
-        &mut equity[from..e],
-        &mut trades[from..t],
-        rooms::list(sizes, 0, lists),
-        rooms::list(sizes, 1, lists),
-        rooms::list(sizes, 2, lists),
-        rooms::list(sizes, 3, lists),
-        done,
     )
 }
 
@@ -173,8 +123,22 @@ pub(crate) fn steps(
 ) -> io::Result<()> {
     let mut done: u64 = 0;
     let bars = text::rooms::part(line, 1, line.len());
-    let answer = steps_call(
-        bars, sizes, settings, state, rows, equity, trades, lists, &mut done,
+    let s = rooms::lent(sizes, rooms::STATE, state.len());
+    let r = rooms::lent(sizes, rooms::ROWS, rows.len());
+    let e = rooms::lent(sizes, rooms::EQUITY, equity.len());
+    let t = rooms::lent(sizes, rooms::TRADES, trades.len());
+    let answer = capi::many::ysh_steps(
+        rooms::words_of(sizes, rooms::SETTINGS, settings),
+        &mut state[..s],
+        bars,
+        &mut rows[..r],
+        &mut equity[..e],
+        &mut trades[..t],
+        rooms::list(sizes, 0, lists),
+        rooms::list(sizes, 1, lists),
+        rooms::list(sizes, 2, lists),
+        rooms::list(sizes, 3, lists),
+        &mut done,
     );
     let points = word(state, POINTS);
     if 0 < points {
@@ -183,30 +147,6 @@ pub(crate) fn steps(
     } else {
         text::write_words(output, &[answer, done, word(state, CLOSED)], b'\n')
     }
-}
-
-fn finish_call(
-    sizes: &[u64],
-    settings: &[u64],
-    state: &mut [u64],
-    rows: &[u64],
-    equity: &mut [u64],
-    trades: &mut [u64],
-    metrics: &mut [u64],
-) -> u64 {
-    let from: usize = 0;
-    let s = rooms::lent(sizes, rooms::STATE, state.len());
-    let e = rooms::lent(sizes, rooms::EQUITY, equity.len());
-    let t = rooms::lent(sizes, rooms::TRADES, trades.len());
-    let m = rooms::lent(sizes, rooms::METRICS, metrics.len());
-    capi::bars::ysh_finish(
-        rooms::words_of(sizes, rooms::SETTINGS, settings),
-        &mut state[from..s],
-        rooms::words_of(sizes, rooms::ROWS, rows),
-        &mut equity[from..e],
-        &mut trades[from..t],
-        &mut metrics[from..m],
-    )
 }
 
 // The answer, the metrics, and the trade where the end closed one.
@@ -221,26 +161,20 @@ pub(crate) fn finish(
     metrics: &mut [u64],
 ) -> io::Result<()> {
     let closed = word(state, CLOSED);
-    let answer = finish_call(sizes, settings, state, rows, equity, trades, metrics);
+    let s = rooms::lent(sizes, rooms::STATE, state.len());
+    let e = rooms::lent(sizes, rooms::EQUITY, equity.len());
+    let t = rooms::lent(sizes, rooms::TRADES, trades.len());
+    let m = rooms::lent(sizes, rooms::METRICS, metrics.len());
+    let answer = capi::bars::ysh_finish(
+        rooms::words_of(sizes, rooms::SETTINGS, settings),
+        &mut state[..s],
+        rooms::words_of(sizes, rooms::ROWS, rows),
+        &mut equity[..e],
+        &mut trades[..t],
+        &mut metrics[..m],
+    );
     let figures = rooms::words_of(sizes, rooms::METRICS, metrics);
     write_closed(output, answer, figures, closed, word(state, CLOSED), trades)
-}
-
-fn metrics_call(
-    initial: u64,
-    sizes: &[u64],
-    equity: &[u64],
-    trades: &[u64],
-    room: &mut [u64],
-) -> u64 {
-    let from: usize = 0;
-    let m = rooms::lent(sizes, rooms::METRICS, room.len());
-    capi::figures::ysh_metrics(
-        initial,
-        rooms::words_of(sizes, rooms::EQUITY, equity),
-        rooms::words_of(sizes, rooms::TRADES, trades),
-        &mut room[from..m],
-    )
 }
 
 // Word 1 is the capital. The answer and the metrics.
@@ -252,6 +186,12 @@ pub(crate) fn metrics(
     trades: &[u64],
     room: &mut [u64],
 ) -> io::Result<()> {
-    let answer = metrics_call(word(line, 1), sizes, equity, trades, room);
+    let lent = rooms::lent(sizes, rooms::METRICS, room.len());
+    let answer = capi::figures::ysh_metrics(
+        word(line, 1),
+        rooms::words_of(sizes, rooms::EQUITY, equity),
+        rooms::words_of(sizes, rooms::TRADES, trades),
+        &mut room[..lent],
+    );
     write_done(output, answer, rooms::words_of(sizes, rooms::METRICS, room))
 }

@@ -71,7 +71,13 @@ fn quantity(terms: Terms, cash: f64, price: f64, rv: Option<f64>) -> Quantity
 
 // Slippage by volume needs the order's size: what it would be at the price before slippage.
 #[tactic(auto, unfolding(crate::specs::Fills::probe_qty))]
-fn probe_qty(slippage: Slippage, terms: Terms, cash: f64, raw_price: f64, rv: Option<f64>) -> Quantity
+fn probe_qty(
+    slippage: Slippage,
+    terms: Terms,
+    cash: f64,
+    raw_price: f64,
+    rv: Option<f64>,
+) -> Quantity
     ensures { result ≡ probe_qty slippage terms cash raw_price rv }
 {
     match slippage {

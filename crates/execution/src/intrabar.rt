@@ -137,7 +137,13 @@ fn short_exit(candle: Candle, risk: Risk, entry: f64, extreme: f64) -> Option<Tr
 
 // The level that the bar touches, if any.
 #[tactic(auto, unfolding(crate::specs::Intrabar::intrabar_exit))]
-pub fn intrabar_exit(candle: Candle, risk: Risk, entry: f64, extreme: f64, is_long: bool) -> Option<Trigger>
+pub fn intrabar_exit(
+    candle: Candle,
+    risk: Risk,
+    entry: f64,
+    extreme: f64,
+    is_long: bool,
+) -> Option<Trigger>
     ensures { result ≡ intrabar_exit candle risk entry extreme is_long }
 {
     if entry <= 0.0 {
@@ -178,7 +184,12 @@ pub fn liquidation(candle: Candle, pf: Portfolio) -> Option<Trigger>
 }
 
 #[tactic(auto, unfolding(crate::specs::Intrabar::or_liquidated))]
-fn or_liquidated(fired: Option<Trigger>, candle: Candle, risk: Risk, pf: Portfolio) -> Option<Trigger>
+fn or_liquidated(
+    fired: Option<Trigger>,
+    candle: Candle,
+    risk: Risk,
+    pf: Portfolio,
+) -> Option<Trigger>
     ensures { result ≡ or_liquidated fired candle risk pf }
 {
     match fired {
@@ -193,7 +204,12 @@ fn or_liquidated(fired: Option<Trigger>, candle: Candle, risk: Risk, pf: Portfol
 }
 
 #[tactic(auto, unfolding(crate::specs::Intrabar::closed_by))]
-fn closed_by(trigger: Option<Trigger>, candle: Candle, terms: Terms, pf: Portfolio) -> Option<Closed>
+fn closed_by(
+    trigger: Option<Trigger>,
+    candle: Candle,
+    terms: Terms,
+    pf: Portfolio,
+) -> Option<Closed>
     ensures { result ≡ closed_by trigger candle terms pf }
 {
     match trigger {
@@ -206,7 +222,12 @@ fn closed_by(trigger: Option<Trigger>, candle: Candle, terms: Terms, pf: Portfol
 
 // The open position against one bar's range. `extreme` has taken this bar already.
 #[tactic(auto, unfolding(crate::specs::Intrabar::apply_intrabar_exits, crate::specs::Intrabar::touched))]
-pub fn apply_intrabar_exits(candle: Candle, terms: Terms, pf: Portfolio, extreme: f64) -> Option<Closed>
+pub fn apply_intrabar_exits(
+    candle: Candle,
+    terms: Terms,
+    pf: Portfolio,
+    extreme: f64,
+) -> Option<Closed>
     ensures { result ≡ apply_intrabar_exits candle terms pf extreme }
 {
     if pf.in_position() {

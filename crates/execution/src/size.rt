@@ -6,7 +6,13 @@ use crate::terms::{Risk, Sizing};
 
 // The quantity of an entry at `price` with `equity` to spend; absent where there is nothing to order.
 #[tactic(auto, unfolding(crate::specs::Size::capped_qty, crate::specs::Size::size))]
-pub fn size(sizing: Sizing, risk: Risk, equity: f64, price: f64, realized_vol: Option<f64>) -> Option<f64>
+pub fn size(
+    sizing: Sizing,
+    risk: Risk,
+    equity: f64,
+    price: f64,
+    realized_vol: Option<f64>,
+) -> Option<f64>
     ensures { result ≡ size sizing risk equity price realized_vol }
 {
     if price <= 0.0 {

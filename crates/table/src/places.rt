@@ -14,7 +14,12 @@ fn or_place(p: Option<usize>, q: Option<usize>) -> Option<usize>
 
 // The first place of four, one for each tree. The rules that ask it find their four in a line each; a function that takes the rule as a
 // closure would have to say in its contract what each of the four calls is handed.
-pub(crate) fn first_place(p: Option<usize>, q: Option<usize>, r: Option<usize>, s: Option<usize>) -> Option<usize>
+pub(crate) fn first_place(
+    p: Option<usize>,
+    q: Option<usize>,
+    r: Option<usize>,
+    s: Option<usize>,
+) -> Option<usize>
     ensures { result ≡ first_place p q r s }
 {
     or_place(p, or_place(q, or_place(r, s)))

@@ -7,6 +7,7 @@ ghost use Rattle.table.specs.Reach.{forest_reach, far_at};
 ghost use Rattle.table.specs.Ends.{Linked};
 ghost use Rattle.table.specs.Checked.{from9};
 ghost use Rattle.table.specs.Passes.{AreRoots, LinkedAll};
+
 use crate::answer::Accepted;
 use crate::places::first_place;
 use crate::trees::Roots;
@@ -52,7 +53,11 @@ fn rows_needed(w: u64, x: u64, y: u64, z: u64) -> u64
 }
 
 // Rule 9, and the answer where no rule is broken.
-pub(crate) fn far_or_accepted(t: &[u8], ends: &[usize; 256], roots: Roots) -> Result<Accepted, Refusal>
+pub(crate) fn far_or_accepted(
+    t: &[u8],
+    ends: &[usize; 256],
+    roots: Roots,
+) -> Result<Accepted, Refusal>
     requires roots { AreRoots t.now roots }
     requires linked_all { LinkedAll t.now ends.now roots }
     ensures { result ≡ from9 t.now }
