@@ -1,6 +1,6 @@
 -- The child of Highest and Lowest is a series: where each node has the children that its kind takes, it is a Price or a Ref.
 -- Assumes nothing.
-use Rattle.std.specs.Prelude.{◌≡◌, refl, true, List, [], ◌∷◌, ℕ, replicate, eqb}
+use Rattle.std.specs.Prelude.{◌≡◌, refl, true, List, [], ◌∷◌, ℕ, replicate}
 use Rattle.words.specs.Prelude.{sym, true≢false, arith}
 use Rattle.table.specs.{declared.nodes.Node.Node, declared.header.Form.Form, declared.series.Series.Series, declared.series.Series.TheVariants.Price}
 use Rattle.table.specs.{declared.series.Series.TheVariants.Slot, declared.kinds.OperandClass.OperandClass, Kinds.kind_of, Kinds.extremum, Kinds.is_series}

@@ -1,6 +1,6 @@
 -- The forest of a tree within the limits keeps the rules of a table: own bytes, sorts and children.
 -- Assumes nothing.
-use Rattle.std.specs.Prelude.{◌≡◌, refl, true, false, List, [], ◌∷◌, ℕ, ◌+◌, ◌≤◌, ◌<◌, replicate, eqb}
+use Rattle.std.specs.Prelude.{◌≡◌, refl, true, false, List, [], ◌∷◌, ℕ, ◌+◌, ◌≤◌, ◌<◌, replicate}
 use Rattle.words.specs.Prelude.{◌∙◌, ap, lt-ltb, le-leb, arith}
 use Rattle.words.specs.{Limits.most_reach, Limits.most_slots, Limits.most_nodes}
 use Rattle.table.specs.{declared.nodes.Node.Node, declared.kinds.Kind.Kind, declared.header.Form.Form, declared.series.Series.Series}
