@@ -1,3 +1,4 @@
+pub mod Ended
 pub mod Record
 pub mod Account
 pub mod Books

@@ -11,12 +11,11 @@ ghost use Rattle.engine.specs.Account as Account;
 ghost use Rattle.engine.specs.Account.{leaving, facing, entering, due_if_reached, due_of, charged};
 ghost use Rattle.engine.specs.Books.{booked, marked};
 
-use portfolio::Closed;
 use crate::{record, terms};
 use execution::fills::Entry;
 use execution::level::{OrderKind, Side};
 use execution::{costs, fills, intrabar, level};
-use portfolio::{Candle, Portfolio, SIGNAL};
+use portfolio::{Candle, Closed, Portfolio, SIGNAL};
 use records::settings::Settings;
 use records::state::{Counts, Order, Position};
 use rows::ring::Ring;
@@ -227,7 +226,13 @@ pub(crate) fn fill_working_order(
 
 // The exits inside the bar. Their levels are read from the settings' words, and only in a position: carried along as values they would be divided by a
 // hundred before every bar, and a level that is not given holds whatever stood in its place, which a processor may be slow to divide.
-fn exits_of(s: Settings, settings: &[u64], candle: Candle, account: Portfolio, extreme: f64) -> Option<Closed>
+fn exits_of(
+    s: Settings,
+    settings: &[u64],
+    candle: Candle,
+    account: Portfolio,
+    extreme: f64,
+) -> Option<Closed>
     requires { s ≡ settings_of settings.now }
     ensures { result ≡ apply_intrabar_exits candle s.terms account extreme }
 {

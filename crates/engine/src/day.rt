@@ -195,9 +195,7 @@ pub fn run_bars<'a>(
         };
     }
     let s = records::settings::settings_of(settings);
-    if let Err(refusal) = refusals::day::judge_day(
-        span, s, t, bars, rows, equity, trades,
-    ) {
+    if let Err(refusal) = refusals::day::judge_day(span, s, t, bars, rows, equity, trades) {
         return Day {
             done: 0,
             verdict: Err(refusal),

@@ -1,6 +1,7 @@
 // The terms of an entry, made anew part by part. A value that is handed on whole is copied whole, the unused bytes of its enums with it, and on every
 // bar; what is made where an entry is due is copied there alone.
 ghost use Rattle.std.specs.Prelude.{◌≡◌};
+
 use execution::terms::{Risk, Sizing, Slippage, Terms};
 
 fn level_anew(level: Option<f64>) -> Option<f64>

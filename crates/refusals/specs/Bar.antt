@@ -6,7 +6,6 @@ use Rattle.portfolio.specs.{declared.Candle.Candle}
 use Rattle.execution.specs.{declared.costs.Funding.Funding}
 use Rattle.records.specs.{Bar.candle_of, Bar.funding_of}
 use Rattle.refusals.specs.{Lines.Line, Lines.line}
-use Rattle.execution.specs.{Supplied.supplied}
 use Rattle.words.specs.declared.refusal.Refusal.TheVariants as Refusal
 
 -- "present slot not finite, or a slot bit at or above K": of bit k, the lowest of m. The word of an absent slot is not

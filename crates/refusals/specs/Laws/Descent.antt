@@ -5,7 +5,6 @@ use Rattle.words.specs.Prelude.{sym, ap, ◌∙◌, not-true, not-false}
 use Rattle.words.specs.{declared.refusal.Refusal.Refusal}
 use Rattle.refusals.specs.{Lines.Line, Lines.judged, Laws.Lines.below_fine, Laws.Lines.below_bad}
 use Rattle.refusals.specs.{Lines.Verdict}
-use Rattle.words.specs.{Outcome.number_of, Outcome.place_of}
 
 -- a test that a function answers with yes
 pub so : {r ok : Bool} → r ≡ ok → not r ≡ false → ok ≡ true

@@ -8,7 +8,7 @@ use Rattle.refusals.specs.{Settings.slippage_lines, Settings.risk_lines, Setting
 use Rattle.refusals.specs.{Rooms.state_lines, Rooms.place_lines, Rooms.close_lines, Bar.bar_lines, Lists.list_lines, Judgement.run_lines, Judgement.step_lines}
 use Rattle.refusals.specs.{Judgement.finish_lines, Laws.Lines.never, Laws.Lines.and_true}
 use Rattle.refusals.specs.{Lines.Verdict}
-use Rattle.words.specs.{Outcome.number_of, Outcome.place_of}
+use Rattle.words.specs.{Outcome.number_of}
 
 -- the numbers of all lines
 unfoldable pub numbered : List Line → Bool

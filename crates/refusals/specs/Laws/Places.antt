@@ -10,7 +10,7 @@ use Rattle.refusals.specs.{Settings.sizing_lines, Settings.slippage_lines, Setti
 use Rattle.refusals.specs.{Settings.setting_lines, Rooms.room_lines, Rooms.state_lines, Rooms.place_lines, Rooms.close_lines, Bar.bar_lines, Lists.bad_step}
 use Rattle.refusals.specs.{Lists.list_lines, Judgement.run_lines, Judgement.step_lines, Judgement.finish_lines, Judgement.finish_judged, Laws.Lines.never}
 use Rattle.refusals.specs.{Laws.Lines.and_true, Laws.Lines.first_holds, Laws.BadStep.bad_below}
-use Rattle.words.specs.{Outcome.number_of, Outcome.place_of}
+use Rattle.words.specs.{Outcome.place_of}
 
 -- each line's place is below 2^32, where those above it hold
 unfoldable pub Placed : List Line → Type 0

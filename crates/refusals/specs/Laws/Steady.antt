@@ -10,7 +10,6 @@ use Rattle.refusals.specs.{Settings.setting_lines, Laws.Lines.first_holds, Laws.
 use Rattle.refusals.specs.{Laws.Lines.both_fine}
 use Rattle.std.proofs.Math.Nat.{mod_self}
 use Rattle.refusals.specs.{declared.day.Span.Span, declared.day.Span.TheVariants.One, declared.day.Span.TheVariants.Many}
-use Rattle.words.specs.declared.refusal.Refusal.TheVariants as Refusal
 
 -- a room for D rows, fine settings, counts that are within the rooms, and an entry bar below the bars seen
 pub record Steady (s : Settings) (t : State) (m : Rooms) : Type 0 where
@@ -66,7 +65,7 @@ module _ (span : Span) (s : Settings) (t : State) (bars : List ℕ) (m : Rooms) 
     -- nor a list that is not whole bars, as a bar
     pub day_ragged : whole_for span s.slots bars ≡ false → step_judged s t bars m ls ≡ Err why
     unfolding step_judged step_lines
-    day_ragged h = rw (no_bar span s.slots bars h) (stops_there (run_lines s t m) _ 13 0 ∙ (rw (day_lines_lem, h) at bad))
+    day_ragged h = rw (no_bar span s.slots bars h) (stops_there (run_lines s t m) _ Refusal.Records ∙ (rw (day_lines_lem, h) at bad))
 
 -- THE LINES OF EACH BAR say of it what all lines of a step say.
 pub next_judged : (s : Settings) (t : State) (bar : List ℕ) (m : Rooms) (ls : Lists) → Steady s t m → length bar ≡ bar_words s.slots

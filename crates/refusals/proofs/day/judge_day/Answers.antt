@@ -43,7 +43,7 @@ returns-in_err-judge_state c =
     given ∙ stop_block past2 _ _ c.judge_state.ensures refl c.in_err-judge_state.was
 
 pub are_for-requires : goal.are_for-requires
-are_for-requires c = (settings_fine c.args.s (sym c.judge_settings.ensures ∙ c.in_default-judge_settings.is)).slots
+are_for-requires c = (settings_fine c.args.s (sym c.judge_settings.ensures ∙ c.in_ok-judge_settings.was)).slots
 
 pub returns-then-are_for : goal.returns-then-are_for
 unfolding day_lines

@@ -2,7 +2,7 @@
 use Rattle.std.specs.Prelude.{◌≡◌, Err}
 use Rattle.words.specs.Prelude.{refl, ◌∙◌, rules}
 use Rattle.refusals.specs.{Day.next_lines}
-use Rattle.refusals.specs.Laws.Descent.{so, not_so, Below, top, past, stop, past_block, stop_block, last_block}
+use Rattle.refusals.specs.Laws.Descent.{so, not_so, top, past, stop, past_block, stop_block, last_block}
 use Rattle.refusals.proofs.day.judge_next.Goals as goal
 
 pub returns-then-not-counts_fine : goal.returns-then-not-counts_fine
