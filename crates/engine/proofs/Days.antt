@@ -16,7 +16,6 @@ use Rattle.engine.specs.{Step.advanced, Step.step_answer}
 use Rattle.engine.proofs.{OneBar.ready, OneBar.refused, OneBar.went}
 use Rattle.refusals.specs.{declared.day.Span.Span, declared.day.Span.TheVariants.One}
 use Rattle.refusals.specs.{Lines.Verdict}
-use Rattle.words.specs.declared.refusal.Refusal.TheVariants as Refusal
 
 -- ---- a bar
 

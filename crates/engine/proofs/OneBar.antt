@@ -13,7 +13,6 @@ use Rattle.engine.specs.{Account.filled, Account.intrabar}
 use Rattle.engine.specs.{Account.charged, Books.booked, Books.marked, Decide.decided, Record.row_of, Record.held_rows, Laws.Verdict.handed_bad}
 use Rattle.engine.specs.{Laws.Verdict.handed_fine, Step.Is, Step.fill_of, Step.stepped, Step.answered, Step.size_lines, Step.advanced}
 use Rattle.engine.specs.{Step.step_answer}
-use Rattle.words.specs.declared.refusal.Refusal.TheVariants as Refusal
 
 module _ (s : Settings) (t : State) (bar : List ℕ) (m : Rooms) (ls : Lists) where
   pub phases : (k : Candle) (f : Filled) (x : Left) (p : Position) (o : Order) (atOpen held inside points : ℕ) (ts us ws es : List ℕ)

@@ -9,7 +9,6 @@ use Rattle.engine.specs.{declared.account.Filled.Filled, Account.filled, Account
 use Rattle.engine.specs.{Record.row_of, Record.held_rows}
 use Rattle.refusals.specs.{Lines.Verdict}
 use Rattle.words.specs.{declared.refusal.Refusal.Refusal}
-use Rattle.words.specs.declared.refusal.Refusal.TheVariants as Refusal
 
 -- a result with what is in the rooms then
 pub record With (A : Type 0) : Type 0 where
