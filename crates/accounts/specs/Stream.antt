@@ -28,7 +28,7 @@ one_more_taken t = record { done = t.done + 1; verdict = t.verdict }
 -- what a verdict ends, or another goes on with
 unfoldable pub taken_unless : Verdict → StreamTaken → StreamTaken
 taken_unless (Err why) t = none_taken (Err why)
-taken_unless (Ok tt) t = t
+taken_unless (Ok _) t = t
 
 -- bar after bar, until one is refused
 unfoldable pub stream_takes : ℕ → ℕ → List (List ℕ) → StreamTaken

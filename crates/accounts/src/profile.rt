@@ -1,6 +1,7 @@
 // The profile: which accounts may ride on the stream.
 ghost use Rattle.std.specs.Prelude.{◌≡◌};
 ghost use Rattle.accounts.specs.Profile.{no_short_trees, leverage_within, slots_within, within_profile, profile_judged};
+
 use records::settings::Settings;
 use refusals::verdict::Verdict;
 use table::header::count;

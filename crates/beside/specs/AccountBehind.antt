@@ -54,7 +54,7 @@ status_long S seen (bar ∷ bars) g a = go (is_stopped a.status) (profile_judged
     go : (b : Bool) (v : Verdict) → length (cond b a (rides_by v seen r a)).status ≡ length a.status
     go true v = refl
     go false (Err why) = unfold rides_by in stays false (number_of why) (place_of why) seen
-    go false (Ok tt) = unfold rides_by status_after in stays (eqb r.answer 0) (r.answer / 2 ^ 32) (r.answer % 2 ^ 32) (seen + r.done)
+    go false (Ok _) = unfold rides_by status_after in stays (eqb r.answer 0) (r.answer / 2 ^ 32) (r.answer % 2 ^ 32) (seen + r.done)
 
 -- one that runs, and fits the profile
 after_runs : (S seen : ℕ) (bar : List ℕ) (bars : List (List ℕ)) (g : AccountGiven) (a : AccountLent) → is_stopped a.status ≡ false
@@ -158,7 +158,7 @@ module _ (S seen : ℕ) (bar next : List ℕ) (a b : List (List ℕ)) (g : Accou
           rw same (after_stopped S seen (front ++ back) g x e ∙ sym (after_stopped S (seen + length front) back g x e))
       go false e (Err why) f =
           rw (after_refused S seen bar a g x e why f) (after_refused S seen bar (a ++ back) g x e why f ∙ refused_both why f)
-      go false e (Ok tt) f =
+      go false e (Ok _) f =
           rw (after_runs S seen bar a g x e f) (after_runs S seen bar (a ++ back) g x e f ∙ by (eqb r.answer 0) refl f e)
 
 -- AN ACCOUNT over bars behind bars: over those behind, on what those in front left

@@ -27,7 +27,7 @@ rooms_by_stream l fit = rw (le-leb _ _ (fit first), le-leb _ _ (fit second), le-
 -- what the call leaves of one account, of which nothing else is looked at but the stream's words and the bars
 unfoldable leaves_of : Verdict → List ℕ → List ℕ → AccountGiven → AccountLent → AccountLent
 leaves_of (Err why) stream bars g a = a
-leaves_of (Ok tt) stream bars g a =
+leaves_of (Ok _) stream bars g a =
     let S = word stream 0 in
     let seen = word stream 1 in
     account_after S seen (in_records (stream_taken S seen bars).done (bar_words S) bars) g a
@@ -39,10 +39,10 @@ by_itself (Err why) bars g l first = refl
 by_itself (Err why) bars g l second = refl
 by_itself (Err why) bars g l third = refl
 by_itself (Err why) bars g l fourth = refl
-by_itself (Ok tt) bars g l first = refl
-by_itself (Ok tt) bars g l second = refl
-by_itself (Ok tt) bars g l third = refl
-by_itself (Ok tt) bars g l fourth = refl
+by_itself (Ok _) bars g l first = refl
+by_itself (Ok _) bars g l second = refl
+by_itself (Ok _) bars g l third = refl
+by_itself (Ok _) bars g l fourth = refl
 
 call_leaves : (bars : List ℕ) (g : Four) (l : AccountsLent) (which : Which) → StatusesFit l
     → lent_to which (call bars g l).lent

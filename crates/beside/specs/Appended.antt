@@ -43,7 +43,7 @@ records_behind (suc n) m w a b h =
 -- a bar that is taken, and those after it
 one_more : (v : Verdict) (t : StreamTaken) → (taken_unless v (one_more_taken t)).verdict ≡ Ok tt → (v ≡ Ok tt) × (t.verdict ≡ Ok tt)
 unfolding taken_unless
-one_more (Ok tt) t e = (refl, e)
+one_more (Ok _) t e = (refl, e)
 one_more (Err why) t e = never e
 
 -- where all of the front is taken, so is of all what is taken behind it, with so many bars more
@@ -89,7 +89,7 @@ takes_ended S (bar ∷ a) b seen why e = go (judged (stream_bar_lines S seen bar
         → (taken_unless v (one_more_taken (stream_takes S (seen + 1) a))).verdict ≡ Err why
         → taken_unless v (one_more_taken (stream_takes S (seen + 1) (a ++ b))) ≡ taken_unless v (one_more_taken (stream_takes S (seen + 1) a))
     go (Err r) later f = unfold taken_unless in refl
-    go (Ok tt) later f = unfold taken_unless in rw (later f)
+    go (Ok _) later f = unfold taken_unless in rw (later f)
 
 -- ---- calls of a step
 

@@ -45,7 +45,7 @@ SmallEnd t = (r : Refusal) → t.verdict ≡ Err r → FitsAnswer r
 unless_small : (v : Verdict) (t : StreamTaken) → ((r : Refusal) → v ≡ Err r → FitsAnswer r) → SmallEnd t → SmallEnd (taken_unless v t)
 unfolding taken_unless
 unless_small (Err why) t own later = own
-unless_small (Ok tt) t own later = later
+unless_small (Ok _) t own later = later
 
 takes_small : (S : ℕ) (bars : List (List ℕ)) (seen : ℕ) → SmallEnd (stream_takes S seen bars)
 unfolding stream_takes
@@ -89,22 +89,22 @@ none_left S seen t bars g l none = rw none
 keeps_by : (v : Verdict) (bars : List ℕ) (g : Four) (l : AccountsLent) → (accounts_by v bars g l).lent.done ≡ 0 → (accounts_by v bars g l).lent ≡ none_done l
 unfolding accounts_by after_bars
 keeps_by (Err why) bars g l none = refl
-keeps_by (Ok tt) bars g l none = none_left (word l.stream 0) (word l.stream 1) (taken bars g l) bars g l none
+keeps_by (Ok _) bars g l none = none_left (word l.stream 0) (word l.stream 1) (taken bars g l) bars g l none
 
 -- the answer is what the verdict answers
 answer_by : (v : Verdict) (bars : List ℕ) (g : Four) (l : AccountsLent) → (accounts_by v bars g l).answer ≡ answer_of (first_bad v (taken bars g l).verdict)
 unfolding accounts_by answer_of
 answer_by (Err why) bars g l = refl
-answer_by (Ok tt) bars g l = refl
+answer_by (Ok _) bars g l = refl
 
 first_small : (v w : Verdict) → ((r : Refusal) → v ≡ Err r → FitsAnswer r) → ((r : Refusal) → w ≡ Err r → FitsAnswer r)
     → (r : Refusal) → first_bad v w ≡ Err r → FitsAnswer r
 first_small (Err why) w p q = p
-first_small (Ok tt) w p q = q
+first_small (Ok _) w p q = q
 
 answers_nothing : (v : Verdict) → ((r : Refusal) → v ≡ Err r → FitsAnswer r) → answer_of v ≡ 0 → v ≡ Ok tt
 unfolding answer_of
-answers_nothing (Ok tt) small e = refl
+answers_nothing (Ok _) small e = refl
 answers_nothing (Err why) small e = absurd (refused_word why (small why refl) e)
 
 answers_bad : (v : Verdict) (r : Refusal) → v ≡ Err r → answer_of v ≡ answer_word r

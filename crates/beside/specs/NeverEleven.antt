@@ -66,7 +66,7 @@ account_other S seen (bar ∷ bars) g a b is fine room running eleven = go (prof
         ap (λ (x : AccountLent). word x.status 0) (is.refused some running why e)
         ∙ stopped_number a.status (number_of why) (place_of why) seen room in
         outside_other (within_profile g.table (settings_of g.settings) S) (checked g.table) why (one_to_nine g.table) e (sym told ∙ eleven)
-    go (Ok tt) e =
+    go (Ok _) e =
         let few : (settings_of g.settings).slots ≤ S = profile_slots g.table (settings_of g.settings) S e in
         rode_other seen a b (alone S g a (bar ∷ bars)) (is.rides running e) room running
         (calls_other S g.settings (own_lists g) few (bar ∷ bars) fine (record { state = a.state; rooms = a.rooms })) eleven
@@ -103,7 +103,7 @@ never_eleven bars g l which running eleven = go (rooms_judged bars g l) refl
         let number : word (lent_to which (call bars g l).lent).status 0 ≡ word (lent_to which l).status 0 =
         ap (λ (x : AccountLent). word x.status 0) same in
         omega (arith, number, running, eleven)
-    go (Ok tt) e =
+    go (Ok _) e =
         account_other (slots bars g l) (seen bars g l) (in_records (taken bars g l).done (bar_words (slots bars g l)) bars) (given_to which g) (lent_to which l)
         (lent_to which (call bars g l).lent)
         ((as_if_alone bars g l).account e which) (taken_fine (slots bars g l) (seen bars g l) bars) (statuses l which e) running eleven

@@ -159,13 +159,13 @@ call_behind g l a b front back = go (rooms_judged a g l) refl
     go (Err why) e =
         let same : accounts_call (a ++ b) g l ≡ accounts_call a g l = unfold accounts_call accounts_by in rw e in
         rw (ne_eqb (accounts_call a g l).answer 0 (not_zero a g l why (rw e)), same)
-    go (Ok tt) e = by (stream_taken (word l.stream 0) (word l.stream 1) a).verdict refl
+    go (Ok _) e = by (stream_taken (word l.stream 0) (word l.stream 1) a).verdict refl
       where
         by : (v : Verdict) → (stream_taken (word l.stream 0) (word l.stream 1) a).verdict ≡ v
             → (let c = accounts_call a g l in accounts_call (a ++ b) g l ≡ cond (eqb c.answer 0) (done_before c.lent.done (accounts_call b g c.lent)) c)
         by (Err why) f =
             rw (ne_eqb (accounts_call a g l).answer 0 (not_zero a g l why (rw (e, f)))) (call_ended g l a b e front back why f)
-        by (Ok tt) f =
+        by (Ok _) f =
             on_zero b g (accounts_call a g l) (left g l a b e) (call_zero g l a b e front back f) (call_on g l a b e front back f)
 
 -- rooms that have their words have them after a call
@@ -180,7 +180,7 @@ slots_stay bars g l = go (rooms_judged bars g l) refl
   where
     go : (v : Verdict) → rooms_judged bars g l ≡ v → word (accounts_call bars g l).lent.stream 0 ≡ word l.stream 0
     go (Err why) e = unfold accounts_call accounts_by in rw e
-    go (Ok tt) e = unfold accounts_call accounts_by after_bars in rw e (counted l.stream (taken bars g l).done 0 (two g l bars [] e)).slots
+    go (Ok _) e = unfold accounts_call accounts_by after_bars in rw e (counted l.stream (taken bars g l).done 0 (two g l bars [] e)).slots
 
 -- parts of whole bars make whole bars
 whole_all : (S : ℕ) (parts : List (List ℕ)) → WholeParts S parts → whole_bars S (all_of parts) ≡ true

@@ -84,8 +84,8 @@ step_refuses : (v : Verdict) (a : Result State (Refusal × State)) (state : List
     → (r : Refusal) → unless_bad v (step_gives a state m) ≡ refuses r → number_of r ≡ 11 → ⊥
 unfolding unless_bad step_gives
 step_refuses (Err q) a state m rooms step r e = let same : q ≡ r = cc in rooms r (rw same)
-step_refuses (Ok tt) (Err (q, u)) state m rooms step r e = let same : q ≡ r = cc in step r u (rw same)
-step_refuses (Ok tt) (Ok next) state m rooms step r e = absurd (let z : ◌≡◌ {A = ℕ} 0 1 = cc in omega arith)
+step_refuses (Ok _) (Err (q, u)) state m rooms step r e = let same : q ≡ r = cc in step r u (rw same)
+step_refuses (Ok _) (Ok next) state m rooms step r e = absurd (let z : ◌≡◌ {A = ℕ} 0 1 = cc in omega arith)
 
 -- and so not 11, its answer's number is not
 call_other : {A : Type 0} (o : Outcome A) (before : A) → Honest (call_of o before) before o → ((r : Refusal) → o ≡ refuses r → number_of r ≡ 11 → ⊥)

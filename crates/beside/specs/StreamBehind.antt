@@ -158,7 +158,7 @@ taken_behind S seen a b front back all = go (judged (stream_lines S seen a)) ref
     none (x ∷ a) why front bad all = never (rw (taken_not S seen x a why bad) at all)
 
     go : (v : Verdict) → judged (stream_lines S seen a) ≡ v → Behind S seen a b front back
-    go (Ok tt) e = taken_behind_fine S seen a b front back e all
+    go (Ok _) e = taken_behind_fine S seen a b front back e all
     go (Err why) e = none a why front e all
 
 -- and of two of which the first ends it
@@ -172,7 +172,7 @@ taken_ended S seen (x ∷ a) b front back why e = go (judged (stream_lines S see
 
     go : (v : Verdict) → judged (stream_lines S seen (x ∷ a)) ≡ v → stream_taken S seen (x ∷ a ++ b) ≡ stream_taken S seen (x ∷ a)
     go (Err r) f = taken_not S seen x (a ++ b) r (alike ∙ f) ∙ sym (taken_not S seen x a r f)
-    go (Ok tt) f =
+    go (Ok _) f =
         let own : stream_taken S seen (x ∷ a) ≡ stream_takes S seen (bars_of S (x ∷ a)) = taken_is S seen (x ∷ a) f in
         taken_is S seen (x ∷ a ++ b) (alike ∙ f)
         ∙ rw (both_bars S seen (x ∷ a) b front back, own) (takes_ended S (bars_of S (x ∷ a)) (bars_of S b) seen why (rw own at e))

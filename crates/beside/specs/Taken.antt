@@ -36,7 +36,7 @@ takes_fine S w (suc n) seen ws wide h =
     go : (v : Verdict) → judged (stream_bar_lines S seen (take w ws)) ≡ v → AllFine S (in_records later w (drop w ws))
         → AllFine S (in_records (taken_unless v (one_more_taken (stream_takes S (seen + 1) (in_records n w (drop w ws))))).done w ws)
     go (Err why) e rest = tt
-    go (Ok tt) e rest =
+    go (Ok _) e rest =
         let back : later + 1 - 1 ≡ later = omega arith in
         rw (records_next (later + 1) w ws (omega arith), back)
         (length-take-le w ws (fewer n w (length ws) h).0 ∙ wide, bar_fine S seen (take w ws) e, rest)
@@ -52,4 +52,4 @@ taken_fine S seen bars = go (eqb (length bars) 0) (judged (stream_lines S seen b
     go : (b : Bool) (v : Verdict) → AllFine S (in_records (cond b (none_taken (Ok tt)) (taken_unless v (stream_takes S seen all))).done (bar_words S) bars)
     go true v = tt
     go false (Err why) = tt
-    go false (Ok tt) = takes_fine S (bar_words S) (length bars / bar_words S) seen bars refl (records_fit (length bars) (bar_words S) (omega arith) _ (omega arith))
+    go false (Ok _) = takes_fine S (bar_words S) (length bars / bar_words S) seen bars refl (records_fit (length bars) (bar_words S) (omega arith) _ (omega arith))

@@ -97,7 +97,7 @@ module _ (table settings : List ℕ) (ls : Lists) (box : StepLent) (losses : Lis
   fine = go (finish_judged s e.state e.rooms) refl (sym end.answer ∙ zero)
     where
       go : (v : Verdict) → finish_judged s e.state e.rooms ≡ v → answer_of v ≡ 0 → v ≡ Ok tt
-      go (Ok tt) h z = refl
+      go (Ok _) h z = refl
       go (Err r) h z = absurd (refused_word r (finish_small s e.state e.rooms r h) (unfold answer_of in z))
 
   ends : EndsAsNever s w e (points_before settings ls box losses) (trades_before settings ls box losses)

@@ -20,7 +20,7 @@ by_verdict : (v : Verdict) (t : State) (m : Rooms) (done : With Ended) (r : Refu
     → (concluded v t m done).result ≡ Err (r, u) → (concluded v t m done).rooms ≡ m
 unfolding concluded
 by_verdict (Err why) t m done r u e = refl
-by_verdict (Ok tt) t m done r u e = absurd (let z : ◌≡◌ {A = ℕ} 0 1 = cc in omega arith)
+by_verdict (Ok _) t m done r u e = absurd (let z : ◌≡◌ {A = ℕ} 0 1 = cc in omega arith)
 
 finish_keeps : (s : Settings) (t : State) (m : Rooms) (r : Refusal) (u : State) → (finish_of s t m).result ≡ Err (r, u) → (finish_of s t m).rooms ≡ m
 unfolding finish_of

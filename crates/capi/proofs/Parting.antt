@@ -17,12 +17,12 @@ use Rattle.capi.proofs.{Calling.call_bad, Calling.call_refused, Calling.call_giv
 -- what an answer tells of the verdict
 refused_by : (v : Verdict) (n : ℕ) {r : Refusal} → parted_by v n ≡ Err r → v ≡ Err r
 unfolding parted_by
-refused_by (Ok tt) n e = absurd (let z : ◌≡◌ {A = ℕ} 0 1 = cc in omega arith)
+refused_by (Ok _) n e = absurd (let z : ◌≡◌ {A = ℕ} 0 1 = cc in omega arith)
 refused_by (Err why) n e = cc
 
 used_by : (v : Verdict) {n m : ℕ} → parted_by v n ≡ Ok m → (v ≡ Ok tt) × (n ≡ m)
 unfolding parted_by
-used_by (Ok tt) e = (refl, cc)
+used_by (Ok _) e = (refl, cc)
 used_by (Err why) e = absurd (let z : ◌≡◌ {A = ℕ} 0 1 = cc in omega arith)
 
 module _ (settings state rows : List ℕ) (at : ℕ) (part : List ℕ) (used : ℕ) where

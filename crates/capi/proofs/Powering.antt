@@ -78,7 +78,7 @@ module _ (settings state image rows : List ℕ) where
     -- a refusal leaves the rows
     left : (v : Verdict) {r : Refusal} (x y : List ℕ) → restored_by v image ≡ Err r → left_by v x y ≡ y
     unfolding restored_by left_by
-    left (Ok tt) x y e = absurd (let z : ◌≡◌ {A = ℕ} 0 1 = cc in omega arith)
+    left (Ok _) x y e = absurd (let z : ◌≡◌ {A = ℕ} 0 1 = cc in omega arith)
     left (Err why) x y e = refl
 
     pub restore_refused : {r : Refusal} {a : ℕ} → restored ≡ Err r → a ≡ answer_word r

@@ -69,7 +69,7 @@ module _ (settings state : List ℕ) (set : setting_words ≤ length settings) (
       go : (v : Verdict) → step_verdict s t bar m ls ≡ v → calls_over settings ls given (bar ∷ bars) ≡ from_words state (run_over s ls t m (bar ∷ bars))
       go (Err r) e =
           rw (first_bad bar r e, run_stops s ls t m bar bars r e, ne_eqb (answer_word r) 0 (refused_word r (step_small s t bar m ls r e)))
-      go (Ok tt) e =
+      go (Ok _) e =
           let d = stepped s t bar m ls in
           let later : Run = run_over s ls d.result d.rooms bars in
           let some = ne_eqb (later.done + 1) 0 (λ (z : later.done + 1 ≡ 0). omega arith) in
@@ -96,7 +96,7 @@ module _ (settings state : List ℕ) (set : setting_words ≤ length settings) (
       go : (v : Verdict) → judged (room_lines s m.rows) ≡ v
           → day_gives v state m (run_over s ls t m (bar ∷ more)) ≡ in_one (from_words state (run_over s ls t m (bar ∷ more)))
       go (Err r) f = unfold day_gives state_after answer_of in rw (run_stops s ls t m bar more r (room_first s t bar m ls r f))
-      go (Ok tt) f = unfold day_gives in refl
+      go (Ok _) f = unfold day_gives in refl
 
 -- ---- rooms that have not their words
 
@@ -151,6 +151,6 @@ steps_are_calls settings state ls m (w ∷ ws) words = go (judged (lent_lines se
     go : (v : Verdict) → judged (lent_lines settings state m.rows) ≡ v
         → steps_call settings state (w ∷ ws) m ls ≡ in_one (calls_over settings ls (record { state = state; rooms = m }) (bars_in K (w ∷ ws)))
     go (Err r) bad = lent_bad settings state ls m (w ∷ ws) first.bar first.more (omega arith) first.is r bad
-    go (Ok tt) fine =
+    go (Ok _) fine =
         let had = lent_had settings state m.rows fine in
         some_of settings state had.0 had.1 ls m (w ∷ ws) first.bar first.more (omega arith) first.is

@@ -24,7 +24,7 @@ use Rattle.refusals.specs.{Lines.Verdict}
 pub first_agrees : {A : Type 0} (v : Verdict) (o : Outcome A) → ((r : Refusal) → v ≡ Err r → o ≡ refuses r) → unless_bad v o ≡ o
 unfolding unless_bad
 first_agrees (Err r) o h = sym (h r refl)
-first_agrees (Ok tt) o h = refl
+first_agrees (Ok _) o h = refl
 
 module _ (settings room : List ℕ) (set : setting_words ≤ length settings) (long : state_words ≤ length room) where
   pub words_fine : judged (word_lines settings room) ≡ Ok tt
@@ -108,7 +108,7 @@ module _ (settings room : List ℕ) (set : setting_words ≤ length settings) (l
         run_stops (settings_of settings) ls t m bar bars r e,
         ne_eqb (answer_word r) 0 (refused_word r (step_small (settings_of settings) t bar m ls r e)),
       )
-  one_bar bar bars t m h (Ok tt) e later =
+  one_bar bar bars t m h (Ok _) e later =
       rw (step_fine settings room set long t h m bar ls e, run_takes (settings_of settings) ls t m bar bars e, later)
 
   -- CALLS ON WORDS ARE THE ENGINE'S RUN, from any state whose floats are f64: as many bars, the answer of the verdict, and the words of the
@@ -177,7 +177,7 @@ module _ (settings room : List ℕ) (set : setting_words ≤ length settings) (l
   end_answer : (v : Verdict) → finish_judged (settings_of settings) t m ≡ v → call.answer ≡ answer_of v
   unfolding answer_of
   end_answer (Err r) e = end_bad r e
-  end_answer (Ok tt) e = (end_fine e).0
+  end_answer (Ok _) e = (end_fine e).0
 
   pub ends_in_words : EndsInWords settings room t m metrics
   ends_in_words = record {

@@ -52,7 +52,7 @@ why_does t n r ok x rows s list count long whole right = rw (ok, le-ltb (length 
 
 gives_only : {A : Type 0} (v : Verdict) (after lent : A) → unless_bad v (gives after) ≡ gives lent → (v ≡ Ok tt) × (after ≡ lent)
 unfolding unless_bad
-gives_only (Ok tt) after lent e = (refl, cc)
+gives_only (Ok _) after lent e = (refl, cc)
 gives_only (Err r) after lent e = absurd (let z : ◌≡◌ {A = ℕ} 0 1 = cc in omega arith)
 
 record Seen (t rows ps : List ℕ) (lines counts : ℕ) : Type 0 where

@@ -16,7 +16,7 @@ pub record PartLent : Type 0 where
   pub used : ℕ
 
 unfoldable pub part_gives : Verdict → PartLent → Outcome PartLent
-part_gives (Ok tt) after = gives after
+part_gives (Ok _) after = gives after
 part_gives (Err why) after = refuses why
 
 -- bytes over the first of the part, and their number

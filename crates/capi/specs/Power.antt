@@ -13,7 +13,7 @@ use Rattle.refusals.specs.{Lines.Verdict}
 use Rattle.words.specs.{declared.refusal.Refusal.Refusal}
 
 unfoldable pub dump_gives : Verdict → List ℕ → Outcome (List ℕ)
-dump_gives (Ok tt) after = gives after
+dump_gives (Ok _) after = gives after
 dump_gives (Err why) after = refuses why
 
 -- lent: the area. The rooms of rows, settings and state come before it, in the order of their numbers.

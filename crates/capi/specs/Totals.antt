@@ -8,7 +8,7 @@ use Rattle.words.specs.{declared.refusal.Refusal.Refusal}
 
 -- lent: the totals
 unfoldable pub totals_gives : Result (Unit {0}) Refusal → List ℕ → Outcome (List ℕ)
-totals_gives (Ok tt) after = gives after
+totals_gives (Ok _) after = gives after
 totals_gives (Err why) after = refuses why
 
 unfoldable pub totals_call : List ℕ → List ℕ → Call (List ℕ)

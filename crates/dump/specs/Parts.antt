@@ -18,7 +18,7 @@ pub record PartLaid (image : List ℕ) (at : ℕ) (part : List ℕ) (used : ℕ)
 
 -- The paper's values for each case of the answer.
 unfoldable pub parted_by : Verdict → ℕ → Result ℕ Refusal
-parted_by (Ok tt) used = Ok used
+parted_by (Ok _) used = Ok used
 parted_by (Err why) used = Err why
 
 -- the answer, and the buffer that it leaves

@@ -36,6 +36,7 @@ fn has_place(bytes: usize, slots: usize, depth: usize) -> bool
 }
 
 // 10: the area.
+#[tactic(auto, unfolding(refusals::specs::Lines::judged, crate::specs::Refused::area_lines))]
 fn judge_area(s: Settings, area: &[u8]) -> Verdict
     ensures { result ≡ judged (area_lines s area.now) }
 {
@@ -65,6 +66,7 @@ fn emptied(t: State) -> State
 }
 
 // 13: the state. Books are not lent, so of them only the counts are judged.
+#[tactic(auto, unfolding(refusals::specs::Lines::judged, crate::specs::Refused::dump_state_lines))]
 fn judge_counts(s: Settings, t: State, rows: &[u64]) -> Verdict
     ensures { result ≡ judged (dump_state_lines s t rows.now) }
 {

@@ -4,12 +4,11 @@ ghost use Rattle.records.specs.Lent.{rooms};
 ghost use Rattle.engine.specs.Finish.{last_exit, remarked, end_state, measured, ended};
 ghost use Rattle.engine.specs.Step.{Is};
 
-use portfolio::Closed;
 use engine::answer::Ended;
 use engine::{account, record};
 use execution::costs;
 use metrics::Metrics;
-use portfolio::END;
+use portfolio::{Closed, END};
 use records::settings::Settings;
 use records::state::{Counts, State};
 

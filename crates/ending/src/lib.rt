@@ -6,10 +6,11 @@ ghost use Rattle.std.specs.Prelude.{Result};
 ghost use Rattle.records.specs.Lent.{rooms};
 ghost use Rattle.engine.specs.Finish.{finish_of};
 ghost use Rattle.engine.specs.Step.{Is};
-use words::refusal::Refusal;
+
 use engine::answer::Ended;
 use records::settings::Settings;
 use records::state::State;
+use words::refusal::Refusal;
 
 // The end of a run: an open position is closed at the last close, the last equity point counts its fee, and the figures are made. Of
 // the rows nothing is read: they are handed over so that the state is judged by all the rooms that it counts.
@@ -30,7 +31,10 @@ pub fn finish(
             let ended = closing::conclude(s, t, rows, equity, trades);
             let state = ended.state;
             let metrics = ended.metrics;
-            Ok(Ended { state: state, metrics: metrics })
+            Ok(Ended {
+                state: state,
+                metrics: metrics,
+            })
         }
     }
 }

@@ -43,7 +43,7 @@ first_refused t why = record { done = 0; verdict = Err why; state = t }
 -- 15 comes last: where the first bar is refused with another number, that is given
 unfoldable pub unlisted_by : Verdict → State → Refusal → Day
 unlisted_by (Err why) t fifteen = first_refused t why
-unlisted_by (Ok tt) t fifteen = first_refused t fifteen
+unlisted_by (Ok _) t fifteen = first_refused t fifteen
 
 -- what was looked at once, and stays fine from bar to bar: what Steady says, and the lists
 pub record Underway (s : Settings) (t : State) (m : Rooms) (ls : Lists) : Type 0 where

@@ -60,7 +60,7 @@ ended s t m =
 -- The paper's values for each case of the answer.
 unfoldable pub concluded : Verdict → State → Rooms → With Ended → With (Result Ended (Refusal × State))
 concluded (Err why) t m done = record { result = Err (why, t); rooms = m }
-concluded (Ok tt) t m done = record { result = Ok done.result; rooms = done.rooms }
+concluded (Ok _) t m done = record { result = Ok done.result; rooms = done.rooms }
 
 unfoldable pub finish_of : Settings → State → Rooms → With (Result Ended (Refusal × State))
 finish_of s t m = concluded (finish_judged s t m) t m (ended s t m)

@@ -48,7 +48,7 @@ stepped s t bar m ls =
 -- nothing lent."
 unfoldable pub answered : Verdict → State → Rooms → With State → With (Result State (Refusal × State))
 answered (Err why) t m done = record { result = Err (why, t); rooms = m }
-answered (Ok tt) t m done = record { result = Ok done.result; rooms = done.rooms }
+answered (Ok _) t m done = record { result = Ok done.result; rooms = done.rooms }
 
 -- "too large a quotient gives 16 at bars seen, after 15, and the step changes nothing"
 unfoldable pub size_lines : Settings → State → List ℕ → Rooms → List Line

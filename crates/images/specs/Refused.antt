@@ -50,7 +50,7 @@ unfoldable pub zero_at : List ℕ → ℕ → ℕ → Bool
 zero_at x at n = every n (λ i. eqb (get_or x (at + i) 0) 0)
 
 abbrev pub is_fine : Verdict → Bool
-is_fine (Ok tt) = true
+is_fine (Ok _) = true
 is_fine (Err why) = false
 
 -- "an absent slot's word is 0": of a row, by its mask
@@ -95,5 +95,5 @@ restore_judged s x rows = judged (restore_lines s x rows)
 
 -- "A refusal .. changes nothing lent."
 unfoldable pub left_by : Verdict → List ℕ → List ℕ → List ℕ
-left_by (Ok tt) after before = after
+left_by (Ok _) after before = after
 left_by (Err why) after before = before

@@ -9,7 +9,7 @@ use Rattle.words.specs.{declared.refusal.Refusal.Refusal}
 
 -- The paper's values for each case of the answer.
 unfoldable pub restored_by : Verdict → List ℕ → Result State Refusal
-restored_by (Ok tt) image = Ok (state_in image)
+restored_by (Ok _) image = Ok (state_in image)
 restored_by (Err why) image = Err why
 
 -- the answer, and the row room that it leaves: the window's rows over its first words, and no other word

@@ -152,11 +152,15 @@ fn judge_image(image: &[u8]) -> Verdict
 }
 
 // 20.
+#[tactic(auto, unfolding(refusals::specs::Lines::judged, crate::specs::Refused::same_lines))]
 fn judge_same(s: Settings, image: &[u8]) -> Verdict
     ensures { result ≡ judged (same_lines s image.now) }
 {
     line(read16(image, layout::DEPTH) == s.depth, Refusal::Other)?;
-    line(byte(image, layout::SLOTS) as usize == s.slots, Refusal::Other)
+    line(
+        byte(image, layout::SLOTS) as usize == s.slots,
+        Refusal::Other,
+    )
 }
 
 // All of it.

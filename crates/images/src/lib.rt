@@ -7,9 +7,9 @@ pub mod reader;
 
 ghost use Rattle.images.specs.Restoring.{Restores};
 
-use words::refusal::Refusal;
-use records::state::State;
 use records::settings::Settings;
+use records::state::State;
+use words::refusal::Refusal;
 
 // The state that an image holds, and its window over the first words of the row room.
 pub fn restore(s: Settings, image: &[u8], rows: &mut [u64]) -> Result<State, Refusal>

@@ -79,7 +79,7 @@ front_64 (bar ∷ a) b h = (h.0, front_64 a b h.1)
 
 -- where the first of two that is not fine would decide, and none does
 first_fine : (v w : Verdict) → first_bad v w ≡ Ok tt → v ≡ Ok tt
-first_fine (Ok tt) w e = refl
+first_fine (Ok _) w e = refl
 first_fine (Err why) w e = never e
 
 -- a call of which nothing is refused has rooms with their words

@@ -62,4 +62,4 @@ over_verdict t rows ps lines counts = over_by (checked t) t rows ps lines counts
 -- "A refusal .. changes nothing lent."
 unfoldable pub unless_refused : Verdict → List ℕ → List ℕ → List ℕ
 unless_refused (Err why) after before = before
-unless_refused (Ok tt) after before = after
+unless_refused (Ok _) after before = after

@@ -26,5 +26,5 @@ judged (l ∷ ls) = over l (judged ls)
 
 -- Of two lists, one below the other: the verdict on the first where it is not fine, else that on the second.
 abbrev pub first_bad : Verdict → Verdict → Verdict
-first_bad (Ok tt) v = v
+first_bad (Ok _) v = v
 first_bad (Err r) v = Err r

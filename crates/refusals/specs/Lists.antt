@@ -8,12 +8,12 @@ use Rattle.refusals.specs.declared.lists.Lists as Trees
 use Rattle.words.specs.declared.refusal.Refusal.TheVariants as Refusal
 
 abbrev pub is_well : Result (Unit {0}) ℕ → Bool
-is_well (Ok tt) = true
+is_well (Ok _) = true
 is_well (Err p) = false
 
 -- "its lowest bad step (0 for a bad length)"
 abbrev pub bad_step : Result (Unit {0}) ℕ → ℕ
-bad_step (Ok tt) = 0
+bad_step (Ok _) = 0
 bad_step (Err p) = p
 
 -- "1,024 times the list (0 to 3, in tree order) plus its lowest bad step (0 for a bad length)"

@@ -5,7 +5,6 @@ use Rattle.words.specs.{Outcome.refuses}
 use Rattle.refusals.specs.{Lines.Line}
 use Rattle.refusals.specs.{Lines.line}
 use Rattle.refusals.specs.{Lines.Verdict}
-use Rattle.words.specs.declared.refusal.Refusal.TheVariants as Refusal
 use Rattle.words.specs.{Outcome.number_of, Outcome.place_of}
 
 -- An answer in C: the refusal's number times 2^32 plus its place, each by its 32 lowest bits; 0 where the call did its work.
@@ -25,7 +24,7 @@ call_of (refuses r) before = record { answer = answer_word r; lent = before }
 -- a verdict that is not fine is the outcome; else another decides
 unfoldable pub unless_bad : {A : Type 0} → Verdict → Outcome A → Outcome A
 unless_bad (Err r) o = refuses r
-unless_bad (Ok tt) o = o
+unless_bad (Ok _) o = o
 
 -- yes is 1, no is 0
 unfoldable pub bit_of : Bool → ℕ

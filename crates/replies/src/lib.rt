@@ -37,7 +37,10 @@ pub fn bit_of(b: bool) -> u64
 pub fn judge_words(settings: &[u64], state: &[u64]) -> Verdict
     ensures { result ≡ judged (word_lines settings.now state.now) }
 {
-    line(SETTING_WORDS <= settings.len(), Refusal::Room(SETTINGS_ROOM))?;
+    line(
+        SETTING_WORDS <= settings.len(),
+        Refusal::Room(SETTINGS_ROOM),
+    )?;
     line(STATE_WORDS <= state.len(), Refusal::Room(STATE_ROOM))
 }
 

@@ -177,11 +177,7 @@ fn binary(
         value (history_of slots rows.now) (flat_operand_at left t.now ends.now i) at in
         result ≡ combined kind (v a bar) (v b bar)) }
 {
-    match eval_operand(t, ends, rows, slots, a, bar, left) {
-        None => None,
-        Some(x) => match eval_operand(t, ends, rows, slots, b, bar, left) {
-            None => None,
-            Some(y) => Some(values::combine(kind, x, y)),
-        },
-    }
+    let x = eval_operand(t, ends, rows, slots, a, bar, left)?;
+    let y = eval_operand(t, ends, rows, slots, b, bar, left)?;
+    Some(values::combine(kind, x, y))
 }

@@ -73,16 +73,13 @@ fn divided(x: f64, y: f64) -> f64
 }
 
 // An operation on two values.
+#[tactic(auto, unfolding(crate::specs::Values::combined))]
 pub fn combined(kind: u8, a: Option<f64>, b: Option<f64>) -> Option<f64>
     ensures { result ≡ Values.combined kind a b }
 {
-    match a {
-        None => None,
-        Some(x) => match b {
-            None => None,
-            Some(y) => Some(combine(kind, x, y)),
-        },
-    }
+    let x = a?;
+    let y = b?;
+    Some(combine(kind, x, y))
 }
 
 // Whether a later number takes the place of the best before it, by the kind: strictly greater for Highest, strictly less for Lowest.
@@ -96,16 +93,13 @@ fn better(kind: u8, best: f64, later: f64) -> bool
 }
 
 // The best of a value and a later one: missing if either is.
+#[tactic(auto, unfolding(crate::specs::Values::pick))]
 pub fn pick(kind: u8, best: Option<f64>, later: Option<f64>) -> Option<f64>
     ensures { result ≡ Values.pick kind best later }
 {
-    match best {
-        None => None,
-        Some(x) => match later {
-            None => None,
-            Some(y) => Some(took(kind, x, y)),
-        },
-    }
+    let before = best?;
+    let now = later?;
+    Some(took(kind, before, now))
 }
 
 // The better of a number and a later one.
@@ -142,15 +136,13 @@ fn test(kind: u8, x: f64, y: f64) -> bool
 }
 
 // A comparison of two values: the Rust's `compare`.
+#[tactic(auto, unfolding(crate::specs::Values::compared))]
 pub fn compared(kind: u8, a: Option<f64>, b: Option<f64>) -> bool
     ensures { result ≡ Values.compared kind a b }
 {
-    match a {
-        None => false,
-        Some(x) => match b {
-            None => false,
-            Some(y) => test(kind, x, y),
-        },
+    match (a, b) {
+        (Some(x), Some(y)) => test(kind, x, y),
+        _ => false,
     }
 }
 

@@ -27,7 +27,7 @@ finish_gives : (v : Verdict) (t : State) (m : Rooms) (done : With Ended) (u : St
     → (v ≡ Ok tt) × (u ≡ done.result.state) × (f ≡ done.result.metrics) × ((concluded v t m done).rooms ≡ done.rooms)
 unfolding concluded
 finish_gives (Err why) t m done u f e = absurd (let z : ◌≡◌ {A = ℕ} 0 1 = cc in omega arith)
-finish_gives (Ok tt) t m done u f e = (refl, cc, cc, refl)
+finish_gives (Ok _) t m done u f e = (refl, cc, cc, refl)
 
 -- ---- nothing is missing
 

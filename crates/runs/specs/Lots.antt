@@ -52,7 +52,7 @@ module _ (s : Settings) (none : Ieee.eq s.terms.lot zero ≡ true) where
   no_lot_no_sixteen t bar m ls = go (step_judged s t bar m ls) refl
     where
       go : (v : Verdict) → step_judged s t bar m ls ≡ v → step_verdict s t bar m ls ≡ step_judged s t bar m ls
-      go (Ok tt) e = handed_fine s t bar m ls e ∙ sizes_fine t bar m ∙ sym e
+      go (Ok _) e = handed_fine s t bar m ls e ∙ sizes_fine t bar m ∙ sym e
       go (Err why) e = handed_bad s t bar m ls why e ∙ sym e
 
   -- WITH A LOT OF 0 what an entry that is due comes to is what it was: the Rust's entry, and nothing is turned away.

@@ -77,4 +77,4 @@ never_full s ls (bar ∷ bars) t m sound p =
         → NotFull (run_over s ls (stepped s t bar m ls).result (stepped s t bar m ls).rooms bars).verdict
         → NotFull (run_over s ls t m (bar ∷ bars)).verdict
     go (Err why) e here later = rw (run_stops s ls t m bar bars why e) (rw e at here)
-    go (Ok tt) e here later = rw (run_takes s ls t m bar bars e) later
+    go (Ok _) e here later = rw (run_takes s ls t m bar bars e) later

@@ -13,13 +13,13 @@ joined_run b r = record { done = b.done + r.done; verdict = r.verdict; state = r
 
 -- "At the first bar that would be refused it stops": r begins only where b took all of its bars.
 unfoldable pub then_run : Verdict → Run → Run → Run
-then_run (Ok tt) b r = joined_run b r
+then_run (Ok _) b r = joined_run b r
 then_run (Err why) b r = b
 
 -- a bar more before the first
 more_then : (v : Verdict) (b r : Run) → one_more (then_run v b r) ≡ then_run v (one_more b) r
 unfolding then_run
-more_then (Ok tt) b r = let e : b.done + r.done + 1 ≡ b.done + 1 + r.done = omega arith in rw e
+more_then (Ok _) b r = let e : b.done + r.done + 1 ≡ b.done + 1 + r.done = omega arith in rw e
 more_then (Err why) b r = refl
 
 -- RUN, AND RUN ON: a run over `before` and then `bars` is the run over `before`, and then, over what it left, the run over `bars`. There is no premise.
@@ -40,13 +40,13 @@ run_append s ls (bar ∷ before) bars t m =
         → let b = run_over s ls t m (bar ∷ before) in
         run_over s ls t m (bar ∷ (before ++ bars)) ≡ then_run b.verdict b (run_over s ls b.state b.rooms bars)
     go (Err why) e goes = rw (run_stops s ls t m bar before why e, run_stops s ls t m bar (before ++ bars) why e)
-    go (Ok tt) e goes =
+    go (Ok _) e goes =
         rw (run_takes s ls t m bar before e, run_takes s ls t m bar (before ++ bars) e, goes)
         (more_then first.verdict first (run_over s ls first.state first.rooms bars))
 
 then_fine : (v : Verdict) (b r : Run) → b.verdict ≡ v → (then_run v b r).verdict ≡ Ok tt → (b.verdict ≡ Ok tt) × (r.verdict ≡ Ok tt)
 unfolding then_run
-then_fine (Ok tt) b r e h = (e, h)
+then_fine (Ok _) b r e h = (e, h)
 then_fine (Err why) b r e h = never (sym e ∙ h)
 
 -- where the whole is fine, both parts are

@@ -126,7 +126,7 @@ module _ (s : Settings) (t : State) (bar : List ℕ) (m : Rooms) (ls : Lists) wh
       flagged false f e = never (sym e)
 
       go : (v : Verdict) → step_judged s t bar m ls ≡ v → (step_judged s t bar m ls ≡ Ok tt) × TurnedAt
-      go (Ok tt) f = (f, flagged (fill_of s t bar m).turned_away refl (sym (handed_fine s t bar m ls f) ∙ e))
+      go (Ok _) f = (f, flagged (fill_of s t bar m).turned_away refl (sym (handed_fine s t bar m ls f) ∙ e))
       go (Err r) f =
           let same : r ≡ why = bad_same (sym (handed_bad s t bar m ls r f) ∙ e) in
           let low : (number_of r) < 16 = judged-below (step_lines s t bar m ls) r (lines_below s t bar m ls) (unfold step_judged in f) in

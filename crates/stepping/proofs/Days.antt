@@ -13,7 +13,7 @@ use Rattle.refusals.specs.{Lines.Verdict}
 -- a refusal of short words is one of the lent words
 short_bad : (words lent : Verdict) {v : Verdict} {r : Refusal} → v ≡ short_of words lent → v ≡ Err r → lent ≡ Err r
 unfolding short_of
-short_bad (Ok tt) lent e bad = absurd (let z : ◌≡◌ {A = ℕ} 0 1 = cc in omega arith)
+short_bad (Ok _) lent e bad = absurd (let z : ◌≡◌ {A = ℕ} 0 1 = cc in omega arith)
 short_bad (Err why) lent e bad = sym e ∙ bad
 
 module _ (span : Span) (settings state bars : List ℕ) (m : Rooms) (ls : Lists) where
@@ -44,7 +44,7 @@ module _ (span : Span) (settings state bars : List ℕ) (m : Rooms) (ls : Lists)
           → day_gives (judged (cond (no_bars span bars) (word_lines settings state) (room ++ word_lines settings state))) state m ran
           ≡ day_gives (Ok tt) state m ran
       go true v e f = rw (e, fine)
-      go false (Ok tt) e f = rw (e, ← fine_block room (word_lines settings state) (sym f) refl refl, fine)
+      go false (Ok _) e f = rw (e, ← fine_block room (word_lines settings state) (sym f) refl refl, fine)
       go false (Err why) e f =
           rw (e, ← bad_block room (word_lines settings state) {r = why} (sym f) refl) (room_refused why e f)
 
@@ -60,7 +60,7 @@ module _ (span : Span) (settings state bars : List ℕ) (m : Rooms) (ls : Lists)
     is_run fine = go (judged (word_lines settings state)) refl short
       where
         go : (w : Verdict) → judged (word_lines settings state) ≡ w → v ≡ short_of w lent → day_gives lent state m ran ≡ day_gives (Ok tt) state m ran
-        go (Ok tt) h e = words_fine h
+        go (Ok _) h e = words_fine h
         go (Err why) h e = ap (λ (x : Verdict). day_gives x state m ran) (unfold short_of in sym e ∙ fine)
 
     pub day_ran : {t u : State} {n a : ℕ} {w : Verdict} {ws es ts words : List ℕ} → v ≡ Ok tt → t ≡ state_of state

@@ -40,7 +40,7 @@ module _ (settings state bar : List ℕ) (m : Rooms) (ls : Lists) where
           → call_of (unless_bad v (step_gives d.result state d.rooms)) (record { state = state; rooms = m })
           ≡ uncounted (day_gives v state m (day_of One s t bar m ls))
       go (Err r) = unfold call_of unless_bad day_gives in refl
-      go (Ok tt) = unfold unless_bad in by_answer d.result refl
+      go (Ok _) = unfold unless_bad in by_answer d.result refl
 
   pub one_call : {a n : ℕ} {words : List ℕ} {r : Rooms}
       → day_call One settings state bar m ls ≡ record { answer = a; lent = record { state = words; rooms = r; done = n } }

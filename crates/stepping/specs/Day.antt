@@ -22,7 +22,7 @@ day_lent_lines span settings state bars rows = cond (no_bars span bars) (word_li
 
 -- What is judged of the lent words before the engine is called: nothing where settings and state have all theirs, since it looks at the room of rows first.
 unfoldable pub short_of : Verdict → Verdict → Verdict
-short_of (Ok tt) lent = Ok tt
+short_of (Ok _) lent = Ok tt
 short_of (Err why) lent = lent
 
 -- "That bar itself changes nothing": where no bar was done, the words of the state are those that were given
@@ -32,7 +32,7 @@ state_after state done t = cond (eqb done 0) state (overwrite state 0 (words_of 
 -- "the answer gives the number, the place and how many were done": the count is given beside a refusal too
 unfoldable pub day_gives : Verdict → List ℕ → Rooms → Run → Call DayLent
 day_gives (Err why) state m run = record { answer = answer_word why; lent = record { state = state; rooms = m; done = 0 } }
-day_gives (Ok tt) state m run = record {
+day_gives (Ok _) state m run = record {
   answer = answer_of run.verdict;
   lent = record { state = state_after state run.done run.state; rooms = run.rooms; done = run.done };
 }

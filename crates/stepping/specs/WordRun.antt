@@ -28,7 +28,7 @@ calls_over settings ls lent (bar ∷ bars) =
 
 -- what a verdict answers
 unfoldable pub answer_of : Verdict → ℕ
-answer_of (Ok tt) = 0
+answer_of (Ok _) = 0
 answer_of (Err r) = answer_word r
 
 -- a state's words stand at the start of the room that is lent for them

@@ -9,7 +9,7 @@ use Rattle.words.specs.{declared.refusal.Refusal.Refusal}
 
 -- "15: a step list is not well formed: 1,024 times the list .. plus its lowest bad step". Decided: a list that is run by itself is list 0.
 unfoldable pub ran_if : Result (Unit {0}) ℕ → Ran → Result Ran Refusal
-ran_if (Ok tt) r = Ok r
+ran_if (Ok _) r = Ok r
 ran_if (Err p) r = Err (Refusal.Steps p)
 
 -- "12: a given K above 64, a given D outside 1 to 4,096: setting number", K's 0 and D's 1.

@@ -60,7 +60,7 @@ status_after status seen r = cond (eqb r.answer 0) status (stopped_with status (
 -- by the verdict on its table and profile
 unfoldable pub rides_by : Verdict → ℕ → WordRun → AccountLent → AccountLent
 rides_by (Err why) seen r a = record { state = a.state; rooms = a.rooms; status = stopped_with a.status (number_of why) (place_of why) seen }
-rides_by (Ok tt) seen r a = record { state = r.lent.state; rooms = r.lent.rooms; status = status_after a.status seen r }
+rides_by (Ok _) seen r a = record { state = r.lent.state; rooms = r.lent.rooms; status = status_after a.status seen r }
 
 -- over the bars that the stream takes: none stop nobody, and one that was stopped is not touched
 unfoldable pub account_after : ℕ → ℕ → List (List ℕ) → AccountGiven → AccountLent → AccountLent
@@ -118,7 +118,7 @@ after_bars S seen t bars g l =
 
 unfoldable pub accounts_by : Verdict → List ℕ → Four → AccountsLent → Call AccountsLent
 accounts_by (Err why) bars g l = record { answer = answer_word why; lent = none_done l }
-accounts_by (Ok tt) bars g l =
+accounts_by (Ok _) bars g l =
     let S = word l.stream 0 in
     let seen = word l.stream 1 in
     let t = stream_taken S seen bars in

@@ -43,6 +43,7 @@ pub struct Ridden {
 }
 
 // 10: the stream and the four statuses have their words.
+#[tactic(auto, unfolding(refusals::specs::Lines::judged, crate::specs::Accounts::accounts_lines))]
 fn judge_streams(stream: &[u64], a: &[u64], b: &[u64], c: &[u64], d: &[u64]) -> Verdict
     ensures { result ≡ judged (accounts_lines stream.now a.now b.now c.now d.now) }
 {

@@ -97,7 +97,7 @@ join_answer totals other =
 -- ---- what a call leaves: "the totals stay as they were" beside a refusal
 
 abbrev pub left : Result (Unit {0}) Refusal → List ℕ → List ℕ → List ℕ
-left (Ok tt) before after = after
+left (Ok _) before after = after
 left (Err why) before after = before
 
 unfoldable pub add_leaves : List ℕ → List ℕ → List ℕ

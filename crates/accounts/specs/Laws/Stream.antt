@@ -93,7 +93,7 @@ takes_few S (bar ∷ bars) seen = go (judged (stream_bar_lines S seen bar)) (tak
     go : (v : Verdict) → (stream_takes S (seen + 1) bars).done ≤ length bars
         → (taken_unless v (one_more_taken (stream_takes S (seen + 1) bars))).done ≤ length (bar ∷ bars)
     go (Err why) h = omega arith
-    go (Ok tt) h = omega arith
+    go (Ok _) h = omega arith
 
 -- the first `count` bars of S slots stand in the list; where there is one, the stream's slots and its bars are within their limits
 pub record Within (S seen : ℕ) (bars : List ℕ) (count : ℕ) : Type 0 where
@@ -118,7 +118,7 @@ taken_within S seen bars = go (eqb (length bars) 0) (judged (stream_lines S seen
 
     goes : (v : Verdict) → judged (stream_lines S seen bars) ≡ v → Within S seen bars (taken_unless v (stream_takes S seen some)).done
     goes (Err why) e = none_within S seen bars
-    goes (Ok tt) e =
+    goes (Ok _) e =
         let few : (stream_takes S seen some).done ≤ length bars / bar_words S =
         rw (records_length (length bars / bar_words S) (bar_words S) bars) at (takes_few S some seen) in
         record {

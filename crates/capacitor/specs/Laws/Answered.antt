@@ -14,4 +14,4 @@ gives_same e = cc
 pub unless_gives : {A : Type 0} (v : Verdict) (o : Outcome A) (after : A) → unless_bad v o ≡ gives after → (v ≡ Ok tt) × (o ≡ gives after)
 unfolding unless_bad
 unless_gives (Err r) o after e = refuses_not e
-unless_gives (Ok tt) o after e = (refl, e)
+unless_gives (Ok _) o after e = (refl, e)

@@ -32,7 +32,7 @@ module _ (s : Settings) (ls : Lists) (bars : List (List ℕ)) (t : State) (m : R
   all_taken zero = go (run_over s ls t m bars).verdict refl zero
     where
       go : (v : Verdict) → (run_over s ls t m bars).verdict ≡ v → answer_of v ≡ 0 → v ≡ Ok tt
-      go (Ok tt) e z = refl
+      go (Ok _) e z = refl
       go (Err r) e z = absurd (refused_word r (run_small r e) (unfold answer_of in z))
 
   -- an answer with another number than 14: no room was full
@@ -46,7 +46,7 @@ module _ (s : Settings) (ls : Lists) (bars : List (List ℕ)) (t : State) (m : R
 
 dump_given : (v : Verdict) (image after : List ℕ) → dump_gives v image ≡ gives after → (v ≡ Ok tt) × (image ≡ after)
 unfolding dump_gives
-dump_given (Ok tt) image after e = (refl, gives_same e)
+dump_given (Ok _) image after e = (refl, gives_same e)
 dump_given (Err why) image after e = refuses_not e
 
 dump_room : (s : Settings) (t : State) (rows buffer : List ℕ) → dump_judged s t rows buffer ≡ Ok tt → judged (room_lines s rows) ≡ Ok tt
@@ -108,7 +108,7 @@ restore_given : (v : Verdict) (x state rows after-rows : List ℕ) (after : Rest
     → restore_gives (restored_by v x) state (left_by v after-rows rows) ≡ gives after
     → (v ≡ Ok tt) × (record { state = overwrite state 0 (words_of (state_in x)); rows = after-rows } ≡ after)
 unfolding restored_by restore_gives left_by
-restore_given (Ok tt) x state rows after-rows after e = (refl, gives_same e)
+restore_given (Ok _) x state rows after-rows after e = (refl, gives_same e)
 restore_given (Err why) x state rows after-rows after e = refuses_not e
 
 -- an answer of 0: the image was accepted, and what is lent holds its state and its rows
@@ -133,5 +133,5 @@ module _ (settings state x rows : List ℕ) where
     where
       by : (v : Verdict) (after : List ℕ) → (call_of (unless_bad (Ok tt) (restore_gives (restored_by v x) state after)) (record { state = state; rows = rows })).answer
           ≡ answer_of v
-      by (Ok tt) after = unfold call_of unless_bad restore_gives restored_by answer_of in refl
+      by (Ok _) after = unfold call_of unless_bad restore_gives restored_by answer_of in refl
       by (Err r) after = unfold call_of unless_bad restore_gives restored_by answer_of in refl

@@ -65,4 +65,4 @@ one_refusal r s = record { small = λ q e. let same : r ≡ q = cc in rw same at
 pub after_verdict : {A : Type 0} (v : Verdict) (o : Outcome A) → ((r : Refusal) → v ≡ Err r → FitsAnswer r) → Numbered o → Numbered (unless_bad v o)
 unfolding unless_bad
 after_verdict (Err r) o s n = one_refusal r (s r refl)
-after_verdict (Ok tt) o s n = n
+after_verdict (Ok _) o s n = n

@@ -82,7 +82,7 @@ dump_on_paper s t rows area = refl
 
 dump_by : (v : Verdict) (after : List ℕ) → ((r : Refusal) → v ≡ Err r → FitsAnswer r) → Numbered (dump_gives v after)
 unfolding dump_gives
-dump_by (Ok tt) after s = never_refuses after
+dump_by (Ok _) after s = never_refuses after
 dump_by (Err why) after s = one_refusal why (s why refl)
 
 pub dump_honest : (settings state rows area : List ℕ) (from upto : ℕ) →
@@ -106,7 +106,7 @@ restore_on_paper s image rows = refl
 
 restore_by : (v : Verdict) (image state rows : List ℕ) → ((r : Refusal) → v ≡ Err r → FitsAnswer r) → Numbered (restore_gives (restored_by v image) state rows)
 unfolding restored_by restore_gives
-restore_by (Ok tt) image state rows s = never_refuses _
+restore_by (Ok _) image state rows s = never_refuses _
 restore_by (Err why) image state rows s = one_refusal why (s why refl)
 
 pub restore_honest : (settings state image rows : List ℕ) →

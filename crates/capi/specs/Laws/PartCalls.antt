@@ -28,7 +28,7 @@ part_on_paper s t rows = refl
 
 part_by : (v : Verdict) (after : PartLent) → ((r : Refusal) → v ≡ Err r → FitsAnswer r) → Numbered (part_gives v after)
 unfolding part_gives
-part_by (Ok tt) after s = never_refuses after
+part_by (Ok _) after s = never_refuses after
 part_by (Err why) after s = one_refusal why (s why refl)
 
 pub part_honest : (settings state rows : List ℕ) (at : ℕ) (before : PartLent) →
@@ -50,8 +50,8 @@ part_honest settings state rows at before =
 -- what gave was refused by neither verdict
 both_passed : (v w : Verdict) (x y : List ℕ) → unless_bad v (dump_gives w x) ≡ gives y → (v ≡ Ok tt) × (w ≡ Ok tt) × (x ≡ y)
 unfolding unless_bad dump_gives
-both_passed (Ok tt) (Ok tt) x y e = (refl, refl, cc)
-both_passed (Ok tt) (Err r) x y e = absurd (let z : ◌≡◌ {A = ℕ} 0 1 = cc in omega arith)
+both_passed (Ok _) (Ok _) x y e = (refl, refl, cc)
+both_passed (Ok _) (Err r) x y e = absurd (let z : ◌≡◌ {A = ℕ} 0 1 = cc in omega arith)
 both_passed (Err r) w x y e = absurd (let z : ◌≡◌ {A = ℕ} 0 1 = cc in omega arith)
 
 -- the bytes of the image that call after call gives, each from where the part before it ends

@@ -87,7 +87,7 @@ finish_by (Ok ended) state m metrics s = never_refuses _
 finish_said : (v : Verdict) (t : State) (m : Rooms) (done : With Ended) (r : Refusal) (u : State) → (concluded v t m done).result ≡ Err (r, u) → v ≡ Err r
 unfolding concluded
 finish_said (Err why) t m done r u e = let same : ◌≡◌ {A = Refusal × State} (why, t) (r, u) = cc in ap (λ (p : Refusal × State). Err p.0) same
-finish_said (Ok tt) t m done r u e = absurd (let z : ◌≡◌ {A = ℕ} 0 1 = cc in omega arith)
+finish_said (Ok _) t m done r u e = absurd (let z : ◌≡◌ {A = ℕ} 0 1 = cc in omega arith)
 
 finish_lines_lem : (settings state rows metrics : List ℕ) → numbered (lent_lines settings state rows ++ metric_lines metrics) ≡ true
 unfolding numbered lent_lines room_lines word_lines metric_lines

@@ -211,7 +211,7 @@ Near f = (p : ℕ) → f ≡ Err p → p < most_steps
 
 run_formed : (f : Result (Unit {0}) ℕ) (r : Ran) → Near f → Numbered (run_gives (ran_if f r))
 unfolding run_gives ran_if
-run_formed (Ok tt) r near = never_refuses _
+run_formed (Ok _) r near = never_refuses _
 run_formed (Err p) r near = one_refusal _ (small _ (omega arith) (omega arith) (omega (arith, near p refl)))
 
 run_by : (b c d e : Bool) (f : Result (Unit {0}) ℕ) (r : Ran) → Near f

@@ -21,7 +21,7 @@ by_answer : (v : Verdict) (t : State) (m : Rooms) (done : With State) (u : State
     → (u ≡ done.result) × (rooms ws es ts ≡ done.rooms)
 unfolding answered
 by_answer (Err why) t m done u ws es ts d = absurd (let z : ◌≡◌ {A = ℕ} 0 1 = cc d.result in omega arith)
-by_answer (Ok tt) t m done u ws es ts d = (let same : Ok u ≡ Ok done.result = d.result in cc, rw (d.rows, d.equity, d.trades))
+by_answer (Ok _) t m done u ws es ts d = (let same : Ok u ≡ Ok done.result = d.result in cc, rw (d.rows, d.equity, d.trades))
 
 module _ (s : Settings) (ls : Lists) (t : State) (m : Rooms) (bar : List ℕ) {u : State} {ws es ts : List ℕ} where
   pub stays_underway : Is (Result State (Refusal × State)) (step_answer s t bar m ls) (Ok u) ws es ts → Underway s t m ls → Underway s u (rooms ws es ts) ls
@@ -196,12 +196,12 @@ module _ (span : Span) (s : Settings) (t : State) (bars : List ℕ) (m : Rooms) 
 
         go : (v : Verdict) → judged own ≡ v → day_of span s t bars m ls ≡ run_with (unlisted_by v t fifteen) m
         go (Err why) e = first_bad h why (judge ∙ below_bad own _ why e)
-        go (Ok tt) e = first_bad h fifteen (judge ∙ (below_fine own _ e ∙ bad))
+        go (Ok _) e = first_bad h fifteen (judge ∙ (below_fine own _ e ∙ bad))
 
 -- A CALL OF ONE BAR IS A STEP: what it comes to is the step's answer.
 unfoldable pub answer_in : Verdict → State → Result State (Refusal × State)
 answer_in (Err why) t = Err (why, t)
-answer_in (Ok tt) t = Ok t
+answer_in (Ok _) t = Ok t
 
 -- a run of one bar, as an answer
 abbrev IsRun : With (Result State (Refusal × State)) → Run → Type 0

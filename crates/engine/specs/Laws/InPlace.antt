@@ -19,7 +19,7 @@ use Rattle.refusals.specs.{declared.day.Span.Span, declared.day.Span.TheVariants
 -- ---- lists
 
 well : (f : Result (Unit {0}) ℕ) → is_well f ≡ true → f ≡ Ok tt
-well (Ok tt) e = refl
+well (Ok _) e = refl
 well (Err p) e = absurd (let z : ◌≡◌ {A = ℕ} 0 1 = cc in omega arith)
 
 -- the four lists of a call, each well formed

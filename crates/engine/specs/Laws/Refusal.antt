@@ -12,7 +12,7 @@ unfolding answered
 by_verdict (Err r) t m done why u e =
     let same : ◌≡◌ {A = Refusal × State} (r, t) (why, u) = cc in
     (ap (λ (p : Refusal × State). Err p.0) same, sym (ap (λ (p : Refusal × State). p.1) same), refl)
-by_verdict (Ok tt) t m done why u e = absurd (let z : ◌≡◌ {A = ℕ} 0 1 = cc in omega arith)
+by_verdict (Ok _) t m done why u e = absurd (let z : ◌≡◌ {A = ℕ} 0 1 = cc in omega arith)
 
 -- Whatever a step refuses, the judgement said so, the state is the one given, and no room has changed.
 pub refusal_changes_nothing : (s : Settings) (t : State) (bar : List ℕ) (m : Rooms) (ls : Lists) (why : Refusal) (u : State)

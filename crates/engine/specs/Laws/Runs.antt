@@ -38,7 +38,7 @@ fine_took_all s ls (bar ∷ bars) t m =
     go : (v : Verdict) → step_verdict s t bar m ls ≡ v → (later.verdict ≡ Ok tt → later.done ≡ length bars)
         → (run_over s ls t m (bar ∷ bars)).verdict ≡ Ok tt → (run_over s ls t m (bar ∷ bars)).done ≡ length (bar ∷ bars)
     go (Err why) e goes = rw (run_stops s ls t m bar bars why e) (λ h. never h)
-    go (Ok tt) e goes = rw (run_takes s ls t m bar bars e) (λ h. omega (arith, goes h))
+    go (Ok _) e goes = rw (run_takes s ls t m bar bars e) (λ h. omega (arith, goes h))
 
 module _ (s : Settings) (ls : Lists) (P : State → Rooms → Type 0)
     (step : (t : State) (m : Rooms) (bar : List ℕ) → step_verdict s t bar m ls ≡ Ok tt → P t m
@@ -55,7 +55,7 @@ module _ (s : Settings) (ls : Lists) (P : State → Rooms → Type 0)
       go : (v : Verdict) → step_verdict s t bar m ls ≡ v → (step_verdict s t bar m ls ≡ Ok tt → P later.state later.rooms)
           → P (run_over s ls t m (bar ∷ bars)).state (run_over s ls t m (bar ∷ bars)).rooms
       go (Err why) e goes = rw (run_stops s ls t m bar bars why e) p
-      go (Ok tt) e goes = rw (run_takes s ls t m bar bars e) (goes e)
+      go (Ok _) e goes = rw (run_takes s ls t m bar bars e) (goes e)
 
   module _ (E : Verdict → Type 0) (fine : E (Ok tt)) (judges : (t : State) (m : Rooms) (bar : List ℕ) → P t m → E (step_verdict s t bar m ls)) where
     -- What holds of every verdict on a bar, where P holds before it, holds of the verdict that ends a run.
@@ -68,4 +68,4 @@ module _ (s : Settings) (ls : Lists) (P : State → Rooms → Type 0)
             → (step_verdict s t bar m ls ≡ Ok tt → E (run_over s ls (stepped s t bar m ls).result (stepped s t bar m ls).rooms bars).verdict)
             → E (run_over s ls t m (bar ∷ bars)).verdict
         go (Err why) e goes = rw (run_stops s ls t m bar bars why e, ← e) (judges t m bar p)
-        go (Ok tt) e goes = rw (run_takes s ls t m bar bars e) (goes e)
+        go (Ok _) e goes = rw (run_takes s ls t m bar bars e) (goes e)

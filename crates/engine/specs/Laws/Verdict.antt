@@ -39,6 +39,6 @@ pub verdicts_alike : (s : Settings) (t t' : State) (bar : List ℕ) (m m' : Room
 verdicts_alike s t t' bar m m' ls same sizes = go (step_judged s t bar m ls) refl
   where
     go : (v : Verdict) → step_judged s t bar m ls ≡ v → step_verdict s t bar m ls ≡ step_verdict s t' bar m' ls
-    go (Ok tt) e =
+    go (Ok _) e =
         handed_fine s t bar m ls e ∙ rw (sizes (step_fine s t bar m ls e)) (sym (handed_fine s t' bar m' ls (sym same ∙ e)))
     go (Err why) e = handed_bad s t bar m ls why e ∙ sym (handed_bad s t' bar m' ls why (sym same ∙ e))

@@ -50,7 +50,7 @@ bad_step_lem : (K D : ℕ) (bs : List ℕ) → bad_step (formed K D bs) < most_s
 bad_step_lem K D bs = go (formed K D bs) refl
   where
     go : (f : Result (Unit {0}) ℕ) → formed K D bs ≡ f → bad_step f < most_steps
-    go (Ok tt) e = omega arith
+    go (Ok _) e = omega arith
     go (Err p) e = bad_below K D bs p e
 
 lists_placed : (K D : ℕ) (ls : Lists) → Placed (list_lines K D ls)

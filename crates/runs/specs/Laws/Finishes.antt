@@ -82,17 +82,17 @@ close_place s t m fine closes =
     ltb-true _ _ (rw closes at (first_holds _ _ c).0)
 
 -- the trade of a finish is in the room
-abbrev Closed : State → Rooms → Option Closed → Type 0
-Closed t m x =
+abbrev ClosedTrade : State → Rooms → Option Closed → Type 0
+ClosedTrade t m x =
     Added Limits.trade_words m.trades t.counts.trades (booked m.trades t.counts.trades x) (length (trades_of x)) (flat_map words_of_trade (trades_of x))
 
-close_booked : (s : Settings) (t : State) (m : Rooms) → finish_judged s t m ≡ Ok tt → Closed t m (last_exit s t)
+close_booked : (s : Settings) (t : State) (m : Rooms) → finish_judged s t m ≡ Ok tt → ClosedTrade t m (last_exit s t)
 close_booked s t m fine = go (to_close t) refl
   where
     none : to_close t ≡ false → last_exit s t ≡ None
     none h = unfold last_exit in rw h
 
-    go : (b : Bool) → to_close t ≡ b → Closed t m (last_exit s t)
+    go : (b : Bool) → to_close t ≡ b → ClosedTrade t m (last_exit s t)
     go true h = trade_booked m.trades t.counts.trades (last_exit s t) (close_place s t m fine h)
     go false h = rw (none h) (none_added m.trades t.counts.trades)
 

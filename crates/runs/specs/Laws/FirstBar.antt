@@ -16,4 +16,4 @@ by_first_bar s ls t m bar bars C none more = go (step_verdict s t bar m ls) refl
     go : (v : Verdict) → step_verdict s t bar m ls ≡ v → let r = run_over s ls t m (bar ∷ bars) in
         C (take r.done (bar ∷ bars)) r.state r.rooms
     go (Err why) e = rw (run_stops s ls t m bar bars why e) none
-    go (Ok tt) e = rw (run_takes s ls t m bar bars e, add-one) (more e)
+    go (Ok _) e = rw (run_takes s ls t m bar bars e, add-one) (more e)

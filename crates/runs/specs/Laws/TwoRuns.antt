@@ -54,9 +54,9 @@ module _ (s : Settings) (ls : Lists) (Free : Verdict → Type 0) (free : Free (O
           → Ends (run_over s ls t m (bar ∷ bars)) (run_over s ls t' m' (bar ∷ bars))
       go (Err w) (Err w') e e' later =
           rw (run_stops s ls t m bar bars w e, run_stops s ls t' m' bar bars w' e') (λ f f'. (refl, so (Err w) (Err w') e e' f f'))
-      go (Err w) (Ok tt) e e' later = rw (run_stops s ls t m bar bars w e) (λ f f'. never (so (Err w) (Ok tt) e e' f free))
-      go (Ok tt) (Err w') e e' later = rw (run_stops s ls t' m' bar bars w' e') (λ f f'. never (sym (so (Ok tt) (Err w') e e' free f')))
-      go (Ok tt) (Ok tt) e e' later =
+      go (Err w) (Ok _) e e' later = rw (run_stops s ls t m bar bars w e) (λ f f'. never (so (Err w) (Ok tt) e e' f free))
+      go (Ok _) (Err w') e e' later = rw (run_stops s ls t' m' bar bars w' e') (λ f f'. never (sym (so (Ok tt) (Err w') e e' free f')))
+      go (Ok _) (Ok _) e e' later =
           rw (run_takes s ls t m bar bars e, run_takes s ls t' m' bar bars e')
           (λ f f'. let x = later e e' f f' in (ap (λ (n : ℕ). n + 1) x.0, x.1))
 

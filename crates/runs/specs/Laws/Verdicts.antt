@@ -95,7 +95,7 @@ places_passed : (n : Counts) (equity trades : List ℕ) (below : List Line) → 
 places_passed n equity trades below free = go (judged (place_lines n equity trades)) refl
   where
     go : (v : Verdict) → judged (place_lines n equity trades) ≡ v → judged (place_lines n equity trades ++ below) ≡ judged below
-    go (Ok tt) e = below_fine (place_lines n equity trades) below e
+    go (Ok _) e = below_fine (place_lines n equity trades) below e
     go (Err why) e = absurd (unfold NotFull in free why (below_bad (place_lines n equity trades) below why e) (places_14 n equity trades why e))
 
 -- lines above say the same of both

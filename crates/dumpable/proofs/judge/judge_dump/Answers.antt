@@ -1,12 +1,35 @@
 -- Room, area and settings are blocks, each judged by itself; the state comes last.
-use Rattle.words.specs.Prelude.{◌∙◌}
-use Rattle.refusals.specs.{Laws.Lines.two_blocks}
+use Rattle.std.specs.Prelude.{◌≡◌, Err}
+use Rattle.words.specs.Prelude.{refl, ◌∙◌, rules}
+use Rattle.refusals.specs.Laws.Descent.{Below, top, past_block, stop_block, last_block}
 use Rattle.dumpable.specs.{Refused.dump_judged, Refused.dump_lines}
 use Rattle.dumpable.proofs.judge.judge_dump.Goals as goal
+
+pub returns-in_err-judge_room : goal.returns-in_err-judge_room
+unfolding dump_judged dump_lines
+returns-in_err-judge_room c =
+    let given : c.from_residual.result ≡ Err c.in_err-judge_room.field-0.0 = search rules in
+    given ∙ stop_block top _ _ c.judge_room.ensures refl c.in_err-judge_room.was
+
+pub returns-in_err-judge_area : goal.returns-in_err-judge_area
+unfolding dump_judged dump_lines
+returns-in_err-judge_area c =
+    let past1 : (let a = c.args in Below (dump_lines a.s a.t a.rows.now a.area.now)) = past_block top _ _ c.judge_room.ensures refl c.in_ok-judge_room.was in
+    let given : c.from_residual-in_err-judge_area.result ≡ Err c.in_err-judge_area.field-0.0 = search rules in
+    given ∙ stop_block past1 _ _ c.judge_area.ensures refl c.in_err-judge_area.was
+
+pub returns-in_err-judge_settings : goal.returns-in_err-judge_settings
+unfolding dump_judged dump_lines
+returns-in_err-judge_settings c =
+    let past1 : (let a = c.args in Below (dump_lines a.s a.t a.rows.now a.area.now)) = past_block top _ _ c.judge_room.ensures refl c.in_ok-judge_room.was in
+    let past2 = past_block past1 _ _ c.judge_area.ensures refl c.in_ok-judge_area.was in
+    let given : c.from_residual-in_err-judge_settings.result ≡ Err c.in_err-judge_settings.field-0.0 = search rules in
+    given ∙ stop_block past2 _ _ c.judge_settings.ensures refl c.in_err-judge_settings.was
 
 pub returns : goal.returns
 unfolding dump_judged dump_lines
 returns c =
-    c.first_bad.ensures ∙ two_blocks _ _ c.judge_room.ensures
-    (c.first_bad-below-2.ensures ∙ two_blocks _ _ c.judge_area.ensures
-    (c.first_bad-below.ensures ∙ two_blocks _ _ c.judge_settings.ensures c.judge_counts-below.ensures))
+    let past1 : (let a = c.args in Below (dump_lines a.s a.t a.rows.now a.area.now)) = past_block top _ _ c.judge_room.ensures refl c.in_ok-judge_room.was in
+    let past2 = past_block past1 _ _ c.judge_area.ensures refl c.in_ok-judge_area.was in
+    let past3 = past_block past2 _ _ c.judge_settings.ensures refl c.in_ok-judge_settings.was in
+    last_block past3 c.judge_counts.ensures

@@ -1,25 +1,21 @@
-use Rattle.words.specs.Prelude.{sym}
+use Rattle.words.specs.Prelude.{sym, rules}
 use Rattle.rows.specs.{History.history_of}
 use Rattle.rules.specs.{Values.combined, Flat.grow_operand, Laws.Meaning.past, Laws.Meaning.const-value, Laws.Meaning.ref_value, Laws.Meaning.price-value}
 use Rattle.rules.specs.{Laws.Meaning.early_value, Laws.Meaning.prev-value, Laws.Meaning.arith_value, Laws.Meaning.extreme_value}
 use Rattle.rules.proofs.{Grown.no_operand, Grown.grown_operand, Grown.below, Grown.above}
 use Rattle.rules.proofs.operands.+binary_eval_operand.Goals as goal
 
-pub binary-returns-in-None : goal.binary-returns-in-None
+pub binary-returns-in_err-x : goal.binary-returns-in_err-x
 unfolding combined grow_operand
-binary-returns-in-None t c =
-    rw (← c.eval_operand.ensures, c.in-None.is)
+binary-returns-in_err-x t c = rw (← c.eval_operand.ensures, c.in_err-x.was) (search rules)
 
-pub binary-returns-in-None-eval_operand : goal.binary-returns-in-None-eval_operand
+pub binary-returns-in_err-y : goal.binary-returns-in_err-y
 unfolding combined grow_operand
-binary-returns-in-None-eval_operand t c =
-    rw (← c.eval_operand.ensures, c.in-Some.is, ← c.eval_operand-in-Some.ensures, c.in-None-eval_operand.is)
+binary-returns-in_err-y t c = rw (← c.eval_operand.ensures, c.in_ok-x.was, ← c.eval_operand-2.ensures, c.in_err-y.was) (search rules)
 
-pub binary-returns-in-Some-eval_operand : goal.binary-returns-in-Some-eval_operand
+pub binary-returns : goal.binary-returns
 unfolding combined grow_operand
-binary-returns-in-Some-eval_operand t c =
-    rw
-    (← c.eval_operand.ensures, c.in-Some.is, ← c.eval_operand-in-Some.ensures, c.in-Some-eval_operand.is, c.combine.ensures)
+binary-returns t c = rw (← c.eval_operand.ensures, c.in_ok-x.was, ← c.eval_operand-2.ensures, c.in_ok-y.was, c.combine.ensures)
 
 pub eval_operand-returns-then-row_count-bar : goal.eval_operand-returns-then-row_count-bar
 unfolding combined grow_operand
