@@ -53,7 +53,7 @@ module _ (settings state : List ℕ) (set : setting_words ≤ length settings) (
   unfolding step_call step_answer answered step_gives call_of
   first_bad bar r e =
       let again : ◌≡◌ {A = Outcome StepLent} (unless_bad (judged (room_lines s m.rows)) (refuses r)) (refuses r) =
-      first_agrees _ _ (λ q f. let same : Err r ≡ Err q = sym e ∙ room_first s t bar m ls q f in cc) in
+      first_agrees _ _ (λ q f. let same : ◌≡◌ {A = Verdict} (Err r) (Err q) = sym e ∙ room_first s t bar m ls q f in cc) in
       rw (e, lent_fine settings state set long m.rows, again)
 
   first_fine : (bar : List ℕ) → step_verdict s t bar m ls ≡ Ok tt →

@@ -77,7 +77,7 @@ module _ (settings room : List ℕ) (set : setting_words ≤ length settings) (l
   step_bad bar ls r e =
       let s : Settings = settings_of settings in
       let again : ◌≡◌ {A = Outcome StepLent} (unless_bad (judged (room_lines s m.rows)) (refuses r)) (refuses r) =
-      first_agrees _ _ (λ q f. let same : Err r ≡ Err q = sym e ∙ room_first s t bar m ls q f in cc) in
+      first_agrees _ _ (λ q f. let same : ◌≡◌ {A = Verdict} (Err r) (Err q) = sym e ∙ room_first s t bar m ls q f in cc) in
       rw (state_kept t h room long, e, lent_fine settings (overwrite room 0 (words_of t)) set words_long m.rows, again)
 
   -- a bar that it takes
@@ -152,7 +152,7 @@ module _ (settings room : List ℕ) (set : setting_words ≤ length settings) (l
   end_bad r e =
       let s : Settings = settings_of settings in
       let again : ◌≡◌ {A = Outcome FinishLent} (unless_bad (judged (room_lines s m.rows)) (refuses r)) (refuses r) =
-      first_agrees _ _ (λ q f. let same : Err r ≡ Err q = sym e ∙ finish_room_first s t m q f in cc) in
+      first_agrees _ _ (λ q f. let same : ◌≡◌ {A = Verdict} (Err r) (Err q) = sym e ∙ finish_room_first s t m q f in cc) in
       rw (
         state_kept t h room long,
         e,

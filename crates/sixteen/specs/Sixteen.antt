@@ -87,7 +87,7 @@ unfoldable below : List Line → Bool
 below [] = true
 below (l ∷ ls) = ltb (number_of l.why) 16 && below ls
 
-bad_same : {r q : Refusal} → Err r ≡ Err q → r ≡ q
+bad_same : {r q : Refusal} → ◌≡◌ {A = Verdict} (Err r) (Err q) → r ≡ q
 bad_same e = cc
 
 by_line : (ok : Bool) (v : Verdict) (why r : Refusal) → number_of why < 16 → (v ≡ Err r → number_of r < 16) → cond ok v (Err why) ≡ Err r → number_of r < 16
@@ -121,7 +121,7 @@ module _ (s : Settings) (t : State) (bar : List ℕ) (m : Rooms) (ls : Lists) wh
   unfolding size_lines judged
   sixteen_only_if why e n = go (step_judged s t bar m ls) refl
     where
-      flagged : (b : Bool) → (fill_of s t bar m).turned_away ≡ b → cond (not b) (Ok tt) (Err (Refusal.Quantity t.counts.bars_seen)) ≡ Err why → TurnedAt
+      flagged : (b : Bool) → (fill_of s t bar m).turned_away ≡ b → cond {A = Verdict} (not b) (Ok tt) (Err (Refusal.Quantity t.counts.bars_seen)) ≡ Err why → TurnedAt
       flagged true f e = flag_turned s t.position (candle_of bar) _ t.counts.bars_seen t.order f
       flagged false f e = never (sym e)
 
