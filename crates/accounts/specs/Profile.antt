@@ -7,7 +7,6 @@ use Rattle.table.specs.{Checked.checked, Header.slots, Header.count}
 use Rattle.refusals.specs.{Lines.Verdict}
 use Rattle.words.specs.{declared.refusal.Refusal.Refusal}
 use Rattle.table.specs.{declared.answer.Accepted.Accepted}
-use Rattle.words.specs.declared.refusal.Refusal.TheVariants as Refusal
 
 -- "no short trees": the counts of trees 2 and 3; "0 means absent"
 unfoldable pub no_short_trees : List ℕ → Bool

@@ -6,7 +6,6 @@ ghost use Rattle.images.specs.Layout.{dump_bytes};
 ghost use Rattle.dumpable.specs.Refused.{area_lines, dump_state_lines, dump_judged};
 ghost use Rattle.dumpable.specs.Refused.{part_judged};
 
-use words::refusal::Refusal;
 use images::layout::HEAD_BYTES;
 use records::settings::Settings;
 use records::state::{Counts, State};
@@ -14,6 +13,7 @@ use refusals::rooms::{judge_room, judge_state};
 use refusals::setting::judge_settings;
 use refusals::verdict::{Verdict, line};
 use words::limits::{MOST_COUNT, ROW_FIXED};
+use words::refusal::Refusal;
 
 // The number of the area among the rooms.
 const AREA: u64 = 14;

@@ -130,4 +130,4 @@ module _ (s : Settings) (t : State) (bar : List ℕ) (m : Rooms) (ls : Lists) wh
       go (Err r) f =
           let same : r ≡ why = bad_same (sym (handed_bad s t bar m ls r f) ∙ e) in
           let low : (number_of r) < 16 = judged-below (step_lines s t bar m ls) r (lines_below s t bar m ls) (unfold step_judged in f) in
-          absurd (omega (arith, low, n, ap (λ (x : Refusal). x.number) same))
+          absurd (omega (arith, low, n, ap (λ (x : Refusal). number_of x) same))
