@@ -188,7 +188,13 @@ pub fn part_words(
 }
 
 // The same of records, by the lines of the refusals.
-pub fn part(s: Settings, t: State, rows: &[u64], at: usize, part: &mut [u8]) -> Result<usize, Refusal>
+pub fn part(
+    s: Settings,
+    t: State,
+    rows: &[u64],
+    at: usize,
+    part: &mut [u8],
+) -> Result<usize, Refusal>
     ensures { PartDumped s t rows.now at part.old result part.new }
 {
     if let Err(refusal) = judge_held(s, t, rows) {
