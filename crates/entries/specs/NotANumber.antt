@@ -1,5 +1,5 @@
 -- "Letting a NaN size through the cap as NaN (it becomes the cap)": of `size` itself. And where `size` gives a NaN all the same.
-use Rattle.std.specs.Prelude.{◌≡◌, refl, false, Float, None, Option, Some, unwrap_or}
+use Rattle.std.specs.Prelude.{◌≡◌, refl, false, Float, None, Option, Some}
 use Rattle.words.specs.Prelude.{nan}
 use Rattle.floats.specs.{Floats.◌⊘◌, Floats.◌≼◌, Floats.float_of, Floats.zero, Floats.one}
 use Rattle.execution.specs.{declared.terms.Risk.Risk, declared.terms.Sizing.Sizing, declared.terms.Sizing.TheVariants.FixedQty}

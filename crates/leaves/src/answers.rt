@@ -1,12 +1,12 @@
 // What each case comes to.
 use crate::cases;
-use execution::fills::{Entry};
+use execution::fills::Entry;
 use execution::intrabar::Trigger;
 use execution::terms::Slippage;
 use execution::{costs, fills, intrabar, size};
 use portfolio::{Closed, Portfolio, SIGNAL};
 
-pub(crate) fn size_of(case: &[u64]) -> Optional {
+pub(crate) fn size_of(case: &[u64]) -> Option<f64> {
     let sizing = cases::sizing(case, 1);
     let risk = cases::risk(case, 4);
     let equity = cases::float(case, 0, 15);
@@ -29,7 +29,7 @@ pub(crate) fn entry_of(case: &[u64], rows: &[u64]) -> Entry {
     fills::execute_entry(side, raw, terms.taker_bps, terms, candle, pf, rows, 0)
 }
 
-pub(crate) fn exit_of(case: &[u64]) -> Exit {
+pub(crate) fn exit_of(case: &[u64]) -> Option<Closed> {
     let raw = cases::float(case, 0, 1);
     let slippage = cases::slippage(case, 2);
     let risk = cases::no_risk();
@@ -45,7 +45,7 @@ pub(crate) fn extreme_of(case: &[u64]) -> f64 {
     intrabar::extreme_with(candle, pf, cases::float(case, 0, 27))
 }
 
-pub(crate) fn left_of(case: &[u64]) -> Exit {
+pub(crate) fn left_of(case: &[u64]) -> Option<Closed> {
     let risk = cases::risk(case, 1);
     let terms = cases::exit_terms(risk, cases::float(case, 0, 12), Slippage::Unknown);
     let candle = cases::candle(case, 13);

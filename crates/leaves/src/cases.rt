@@ -18,7 +18,7 @@ pub(crate) fn flag(case: &[u64], base: usize, j: usize) -> bool {
 }
 
 // A flag, and the number after it. The flags stand at even places.
-pub(crate) fn optional(case: &[u64], base: usize, j: u8) -> Optional {
+pub(crate) fn optional(case: &[u64], base: usize, j: u8) -> Option<f64> {
     if flag(case, base, j as usize) {
         return Some(float(case, base, j as usize + 1));
     }
@@ -107,7 +107,10 @@ pub(crate) fn side(case: &[u64], base: usize) -> Side {
 
 pub(crate) fn funding(case: &[u64], base: usize) -> Option<Funding> {
     if flag(case, base, 0) {
-        return Some(Funding { mark: float(case, base, 1), rate: float(case, base, 2) });
+        return Some(Funding {
+            mark: float(case, base, 1),
+            rate: float(case, base, 2),
+        });
     }
     None
 }

@@ -1,9 +1,8 @@
 // The words of the answers.
-use portfolio::Closed;
 use crate::cases;
-use execution::fills::{Entry};
+use execution::fills::Entry;
 use execution::intrabar::Trigger;
-use portfolio::{Portfolio, Trade};
+use portfolio::{Closed, Portfolio, Trade};
 
 pub(crate) fn optional_words(value: Option<f64>) -> [u64; 2] {
     match value {

@@ -6,6 +6,7 @@ mod cases;
 mod fields;
 
 ghost use Rattle.std.specs.Prelude.{◌≤◌};
+
 use execution::volatility;
 use portfolio::{Closed, Portfolio};
 use std::io;

@@ -11,7 +11,6 @@ use Rattle.questions.specs.{Position.position_words, Position.position_at, Posit
 use Rattle.refusals.specs.{Lines.Verdict}
 use Rattle.words.specs.{declared.refusal.Refusal.Refusal}
 use Rattle.table.specs.{declared.answer.Accepted.Accepted}
-use Rattle.words.specs.declared.refusal.Refusal.TheVariants as Refusal
 
 -- as many rows are asked as there are positions
 unfoldable pub asked_rows : List ℕ → ℕ

@@ -3,17 +3,18 @@ ghost use Rattle.std.specs.Prelude.{◌≡◌, length};
 ghost use Rattle.refusals.specs.Lines.{judged};
 ghost use Rattle.questions.specs.Over.{asked_rows, over_lines, over_verdict, lines_over, counts_over, explanation_over, unless_refused};
 
-use words::refusal::Refusal;
 use crate::each::{PLACE_WORDS, explain_rows};
 use crate::position::{POSITION_WORDS, all_right};
 use chain::lines::LINES_ROOM;
 use refusals::verdict::{Verdict, line};
+use words::refusal::Refusal;
 
 // The number of the list of counts, as a room.
 const COUNTS_ROOM: u64 = 19;
 
 // 10 for the rooms of the lines and of the counts, by their lengths; then 13: rows and positions are whole, there is a row for each position, and every
 // position's counts are in order.
+#[tactic(auto, unfolding(refusals::specs::Lines::judged, crate::specs::Over::over_lines, crate::specs::Over::asked_rows))]
 fn judge_over(slots: usize, rows: &[u64], positions: &[u64], lines: usize, counts: usize) -> Verdict
     ensures { result ≡ judged (over_lines slots rows.now positions.now lines counts) }
 {

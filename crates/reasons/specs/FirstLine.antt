@@ -13,7 +13,6 @@ use Rattle.chain.specs.{Missing.in_table, Chain.ChainLine, Chain.line_at, Chain.
 use Rattle.chain.specs.{Explained.explained_by, Explained.explained}
 use Rattle.words.specs.{declared.refusal.Refusal.Refusal}
 use Rattle.table.specs.{declared.answer.Accepted.Accepted}
-use Rattle.words.specs.declared.refusal.Refusal.TheVariants as Refusal
 
 -- Ok of a tree of so many nodes whose rule answers so: none of an absent tree, which says no; else the first has the answer.
 pub data Leads (nodes : ℕ) (answer : Result Bool Refusal) : List ChainLine → Type 0 where

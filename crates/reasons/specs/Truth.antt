@@ -106,9 +106,8 @@ module _ (h : History) (bar : ℕ) where
       go : (first_gone ls ≡ Some (node, back) → FirstMissing h bar ls node back) → (v : Option Float) → seen h bar l ≡ v
           → first_found (gone_if l.node l.back v) (first_gone ls) ≡ Some (node, back) → FirstMissing h bar (l ∷ ls) node back
       go rest None s f = unfold first_found gone_if in
-          let same-node : l.node ≡ node = cc in
-          let same_back : l.back ≡ back = cc in
-          rw (← same-node, ← same_back) (this l ls s)
+          let same : ◌≡◌ {A = ℕ × ℕ} (l.node, l.back) (node, back) = cc in
+          rw (← ap (λ p. p.0) same, ← ap (λ p. p.1) same) (this l ls s)
       go rest (Some x) s f = later l ls node back (rw s (number x)) (rest (unfold first_found gone_if in f))
 
   -- and there is no other first

@@ -10,7 +10,7 @@ use Rattle.engine.specs.{Boxes.Sound, Boxes.NotFull, Laws.Runs.run_none, Laws.Ru
 use Rattle.engine.specs.{Step.step_verdict}
 use Rattle.runs.specs.{Laws.Alike.step_sound, Laws.Counts.step_lengths}
 use Rattle.refusals.specs.{Lines.Verdict}
-use Rattle.words.specs.{Outcome.number_of, Outcome.place_of}
+use Rattle.words.specs.{Outcome.number_of}
 
 -- each line has another number than 14, or holds
 unfoldable none_fourteen : List Line → Bool

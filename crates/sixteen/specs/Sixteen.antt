@@ -23,8 +23,7 @@ use Rattle.std.specs.Float.Ieee as Ieee
 use Rattle.floats.specs.Floats as Floats
 use Rattle.entries.specs.Ordered as Entry
 use Rattle.refusals.specs.{Lines.Verdict}
-use Rattle.words.specs.declared.refusal.Refusal.TheVariants as Refusal
-use Rattle.words.specs.{Outcome.number_of, Outcome.place_of}
+use Rattle.words.specs.{Outcome.number_of}
 
 -- An entry is due at a bar, and the bar reaches it: no delay is left, and this is the raw price at which the bar fills it.
 pub data DueAt (k : Candle) : Order → Side → OrderKind → Float → Type 0 where

@@ -11,7 +11,6 @@ ghost use Rattle.streamed.specs.Accounts.{given, lent, account_after, accounts_l
 ghost use Rattle.stepping.specs.Bars.{step_call};
 ghost use Rattle.stepping.specs.WordRun.{calls_over};
 
-use words::refusal::Refusal;
 use accounts::own::own_bar;
 use accounts::profile::judge_profile;
 use accounts::status::{STATUS_WORDS, is_stopped, stop};
@@ -23,6 +22,7 @@ use refusals::verdict::{Verdict, line};
 use replies::{HALF, answer_word};
 use stepping::day::{answer_of, call_bars};
 use words::limits::{BAR_FIXED, MOST_SLOTS};
+use words::refusal::Refusal;
 
 // The numbers of these rooms.
 const STREAM_ROOM: u64 = 16;

@@ -12,7 +12,6 @@ use Rattle.steps.specs.{Bytes.written, Bytes.bytes_of, Bytes.Fits, Bytes.Wrote, 
 use Rattle.steps.specs.{Translating.writes_or, Translating.after_table, Translating.translates, Translating.room_after, Translating.room_left, Room.two_a_node}
 use Rattle.steps.specs.{Laws.Encoding.steps_long}
 use Rattle.table.specs.{Outcome.accepts}
-use Rattle.words.specs.declared.refusal.Refusal.TheVariants as Refusal
 use Rattle.translation.proofs.{Writes.bytes_there}
 
 -- ---- what is written at the front of a room

@@ -1,6 +1,6 @@
 -- The array of subtree ends numbers an accepted table's nodes as the table does: past a subtree come as many numbers as it has
 -- nodes. Assumes nothing.
-use Rattle.std.specs.Prelude.{ℕ, zero, suc, ◌+◌, ◌-◌, ◌≤◌, ◌<◌, ◌≡◌, true, List, eqb}
+use Rattle.std.specs.Prelude.{ℕ, zero, suc, ◌+◌, ◌-◌, ◌≤◌, ◌<◌, ◌≡◌, true, List}
 use Rattle.words.specs.Prelude.{sym, ap, subst, ◌∙◌, true≢false, arith, lt-leb}
 use Rattle.table.specs.{declared.kinds.Kind.Kind, Kinds.kind_of, Kinds.is_series, Kinds.extremum}
 use Rattle.table.specs.{Laws.Kinds.OperandKind, Laws.Kinds.a_const, Laws.Kinds.a_ref, Laws.Kinds.a_price, Laws.Kinds.a_prev, Laws.Kinds.an_arith}

@@ -10,7 +10,7 @@ use Rattle.refusals.specs.{Settings.setting_lines}
 use Rattle.engine.specs.{Boxes.Sound, Laws.Runs.run_ends, Run.run_over, Step.size_lines, Step.step_verdict}
 use Rattle.runs.specs.{Laws.Alike.step_sound, Laws.TwoRuns.fresh_sound}
 use Rattle.refusals.specs.{Lines.Verdict}
-use Rattle.words.specs.{Outcome.number_of, Outcome.place_of}
+use Rattle.words.specs.{Outcome.number_of}
 
 -- each line has a number above 10, or holds
 above_ten : List Line → Bool

@@ -11,8 +11,7 @@ use Rattle.engine.specs.{Boxes.WithinRooms, Boxes.Sound, Boxes.SameCounts, Boxes
 use Rattle.engine.specs.{Laws.Verdict.verdicts_alike, Step.size_lines, Step.step_verdict, Whole.account_of, Whole.rows_held}
 use Rattle.runs.specs.{Laws.AccountStep.same_parts, Laws.AccountStep.fill_alike}
 use Rattle.refusals.specs.{Lines.Verdict}
-use Rattle.words.specs.declared.refusal.Refusal.TheVariants as Refusal
-use Rattle.words.specs.{Outcome.number_of, Outcome.place_of}
+use Rattle.words.specs.{Outcome.number_of}
 
 -- ---- the lines of a box with room for D rows: none looks at its rows
 

@@ -1,6 +1,6 @@
 -- A room that is filled place by place. Assumes nothing.
-use Rattle.std.specs.Prelude.{ℕ, zero, suc, ◌+◌, ◌≤◌, ◌<◌, ◌≡◌, refl, min, List, [], ◌∷◌, length, set}
-use Rattle.words.specs.Prelude.{ap, ⊎_elim, arith, lt-ltb, le-ltb}
+use Rattle.std.specs.Prelude.{ℕ, zero, suc, ◌+◌, ◌-◌, ◌*◌, ◌/◌, ◌^◌, ◌≤◌, ◌<◌, ◌≡◌, refl, min, List, [], ◌∷◌, length, take, drop, set}
+use Rattle.words.specs.Prelude.{sym, ap, ◌∙◌, ⊎_elim, arith, div-one, length-set, lt-ltb, le-ltb}
 use Rattle.words.specs.{Laws.Numbers.less_or_not}
 use Rattle.text.specs.{Rooms.laid}
 
@@ -46,3 +46,50 @@ module _ (f : ℕ → ℕ) where
       (λ less. ap (λ (k : ℕ). laid f 0 k xs) (omega arith))
       (λ more. laid_all 0 i n xs (omega arith) (omega arith))
       (less_or_not n (length xs))
+
+-- From the first place on, as a loop fills it: of the n that it is to fill it has filled i.
+pub record Filling (f : ℕ → ℕ) (room₀ : List ℕ) (n i : ℕ) (room : List ℕ) : Type 0 where
+  pub few : i ≤ n
+  pub inside : i ≤ length room₀
+  pub stands : room ≡ laid f 0 i room₀
+  pub long : length room ≡ length room₀
+
+module _ (f : ℕ → ℕ) (room₀ : List ℕ) (n : ℕ) where
+  pub filling_none : Filling f room₀ n 0 room₀
+  filling_none = record { few = omega arith; inside = omega arith; stands = sym (laid_none f 0 0 room₀ (omega arith)); long = refl }
+
+  pub filling_more : {i x : ℕ} {room : List ℕ} → Filling f room₀ n i room → i < n → i < length room → x ≡ f i → Filling f room₀ n (i + 1) (set room i x)
+  filling_more {i} {x} {room} h l k e =
+      let none : 0 + i ≡ i = omega arith in
+      let inside : i < length room₀ = omega (arith, h.long) in
+      record {
+        few = omega arith;
+        inside = omega arith;
+        stands = rw (h.stands, e) (rw none at (laid_more f 0 i room₀ inside));
+        long = simp length-set h.long;
+      }
+
+  -- all that there are to fill
+  pub filling_done : {i : ℕ} {room : List ℕ} → Filling f room₀ n i room → n ≤ i → room ≡ laid f 0 n room₀
+  filling_done {i} h l =
+      let all : i ≡ n = omega (arith, h.few) in
+      h.stands ∙ ap (λ (k : ℕ). laid f 0 k room₀) all
+
+  -- all of the room
+  pub filling_full : {i : ℕ} {room : List ℕ} → Filling f room₀ n i room → length room ≤ i → room ≡ laid f 0 n room₀
+  filling_full {i} h l = h.stands ∙ laid_all f 0 i n room₀ (omega (arith, h.long)) (omega (arith, h.long, h.few))
+
+-- the part past the end is nothing
+pub nothing_left : (xs : List ℕ) → take (length xs - length xs) (drop (length xs) xs) ≡ []
+nothing_left xs =
+    let none : length xs - length xs ≡ 0 = omega arith in
+    rw none
+
+-- byte k of a word; and the last, which is not moved
+pub moved_to : (word i k : ℕ) → i ≡ k → word / 2 ^ (56 - 8 * k) ≡ word / 2 ^ (56 - 8 * i)
+moved_to word i k e = rw e
+
+pub not_moved : (word i : ℕ) → 7 ≤ i → word ≡ word / 2 ^ (56 - 8 * i)
+not_moved word i l =
+    let none : 56 - 8 * i ≡ 0 = omega arith in
+    rw none (sym (div-one word))

@@ -10,7 +10,7 @@ unfolding Bytes
 explain_rows-requires c =
     let a = c.args in
     let f = seen a.t.now a.rows.now a.positions.now _ _ _ c.slots-slots.ensures _ c.judge_over-verdict.ensures
-    c.in-Ok.is in (
+    c.in-Ok-verdict.is in (
       known a.t.now (λ j. omega (arith, c.type_inv.t j)) _ _
           (sym c.check-checked.ensures.0 ∙ c.in-Ok.is) _ c.check-checked.ensures.1,
       f.held,
@@ -21,20 +21,20 @@ pub returns-in-Err : goal.returns-in-Err
 unfolding unless_refused
 returns-in-Err c = (table_refused _ _ _ _ _ _ _ c.check-checked.ensures.0 c.in-Err.is, refl, refl)
 
-pub returns-in-Err : goal.returns-in-Err
+pub returns-in-Err-verdict : goal.returns-in-Err-verdict
 unfolding unless_refused
-returns-in-Err c = (
-  sym c.in-Err.is
+returns-in-Err-verdict c = (
+  sym c.in-Err-verdict.is
       ∙ lines_judged _ _ _ _ _ _ c.slots-slots.ensures _ c.judge_over-verdict.ensures _ _ _ c.check-checked.ensures.0
       c.in-Ok.is,
   refl,
   refl,
 )
 
-pub returns-in-Ok : goal.returns-in-Ok
+pub returns-in-Ok-verdict : goal.returns-in-Ok-verdict
 unfolding unless_refused
-returns-in-Ok c = (
-  sym c.in-Ok.is
+returns-in-Ok-verdict c = (
+  sym c.in-Ok-verdict.is
       ∙ lines_judged _ _ _ _ _ _ c.slots-slots.ensures _ c.judge_over-verdict.ensures _ _ _ c.check-checked.ensures.0
       c.in-Ok.is,
   c.explain_rows.ensures.lines_after,
