@@ -211,9 +211,9 @@ fn say_end(
             Ok(0)
         }
         Ok(ended) => {
-            let counts = last.counts;
+            let counts = ended.state.counts;
             say_trades(output, trades, counts.trades)?;
-            say_metrics(output, figures)?;
+            say_metrics(output, ended.metrics)?;
             Ok(counts.trades)
         }
     }
