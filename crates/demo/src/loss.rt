@@ -25,7 +25,7 @@ fn write_stretch(
     from: usize,
     upto: usize,
 ) -> io::Result<()> {
-    dump::dump(crate::settings(), state, rows, area, from, upto);
+    let _ = dump::dump(crate::settings(), state, rows, area, from, upto);
     report::say_count(output, " ", upto as u64, "")
 }
 
@@ -116,11 +116,8 @@ fn say_trades(
 // The end of the run: its trades.
 fn finished(state: State, rows: &[u64], equity: &mut [u64], trades: &mut [u64]) -> usize {
     match ending::finish(crate::settings(), state, rows, equity, trades) {
-        Err((_, _)) => 0,
-        Ok(ended) => {
-            let counts = last.counts;
-            counts.trades
-        }
+        Err(_) => 0,
+        Ok(ended) => ended.state.counts.trades,
     }
 }
 

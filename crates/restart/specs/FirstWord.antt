@@ -11,7 +11,6 @@ use Rattle.refusals.specs.{Laws.Lines.below_bad}
 use Rattle.images.specs.{Layout.image_of, Refused.shape_fine, Refused.image_lines, Refused.same_lines, Refused.restore_lines, Refused.restore_judged}
 use Rattle.restart.specs.{Laws.FirstBytes.passed_whole}
 use Rattle.refusals.specs.{Lines.Verdict}
-use Rattle.words.specs.declared.refusal.Refusal.TheVariants as Refusal
 
 -- ---- definitions
 
