@@ -9,7 +9,6 @@ use Rattle.stepping.specs.{Bars.lent_lines}
 use Rattle.metrics.specs.Figures as Figures
 use Rattle.records.specs.{declared.state.State.State}
 use Rattle.engine.specs.{declared.answer.Ended.Ended}
-use Rattle.engine.specs.{Ended.ended}
 use Rattle.words.specs.{declared.refusal.Refusal.Refusal}
 
 -- the state's words, the rooms of equity points and of trades, and that of the metrics

@@ -4,14 +4,13 @@ ghost use Rattle.records.specs.Lent.{rooms, lists};
 ghost use Rattle.stepping.specs.Bars.{step_call};
 ghost use Rattle.capi.specs.Finish.{finish_call};
 
-use crate::calls::judge_rooms;
+use crate::calls::judge_ending;
 use crate::figures::put_metrics;
 use records::settings::settings_of;
 use records::state_words::{put_state, state_of};
 use refusals::day::Span;
 use refusals::lists::Lists;
-use refusals::verdict::first_bad;
-use replies::{answer_word, judge_metrics};
+use replies::answer_word;
 use stepping::day::call_bars;
 
 // One bar.
@@ -78,17 +77,15 @@ pub extern "C" fn ysh_finish(
         } }
 {
     let chosen = settings_of(settings);
-    let below = judge_metrics(metrics);
-    let lent = first_bad(judge_rooms(chosen, settings, state, rows), below);
-    if let Err(refusal) = lent {
+    if let Err(refusal) = judge_ending(chosen, settings, state, rows, metrics) {
         return answer_word(refusal);
     }
     let finished = ending::finish(chosen, state_of(state), rows, equity, trades);
     match finished {
         Err((refusal, _)) => answer_word(refusal),
         Ok(ended) => {
-            put_state(state, next);
-            put_metrics(metrics, figures);
+            put_state(state, ended.state);
+            put_metrics(metrics, ended.metrics);
             0
         }
     }

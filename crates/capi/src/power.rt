@@ -33,14 +33,7 @@ fn dump_judged(
         return answer_word(refusal);
     }
     let given = state_of(state);
-    if let Err(refusal) = dump::dump(
-        chosen,
-        given,
-        rows,
-        area,
-        from as usize,
-        upto as usize,
-    ) {
+    if let Err(refusal) = dump::dump(chosen, given, rows, area, from as usize, upto as usize) {
         return answer_word(refusal);
     }
     0

@@ -1,9 +1,10 @@
 // Checking a rule table, how deep a window it needs, and its trees as steps.
 ghost use Rattle.std.specs.Prelude.{◌≡◌};
 ghost use Rattle.capi.specs.Tables.{numbered_tree, check_call, depth_call, silent_call, translate_call};
+
 use needed::depth::Needs;
-use table::answer::Accepted;
 use replies::answer_word;
+use table::answer::Accepted;
 use table::trees::Tree;
 use words::limits::TREES;
 
@@ -32,7 +33,12 @@ pub extern "C" fn ysh_check(table: &[u8], nodes: &mut u64, rows: &mut u64) -> u6
     let answer = checked.answer;
     match answer {
         Err(refusal) => answer_word(refusal),
-        Ok(Accepted { nodes: n, rows: needed }) => {
+        Ok(
+            Accepted {
+                nodes: n,
+                rows: needed,
+            },
+        ) => {
             *nodes = n as u64;
             *rows = needed;
             0
@@ -49,7 +55,13 @@ pub extern "C" fn ysh_depth(table: &[u8], lookback: u64, rows: &mut u64, bytes: 
     let depth = needed::depth::depth(table, lookback);
     match depth {
         Err(refusal) => answer_word(refusal),
-        Ok(Needs { rows: needed, row: _, window }) => {
+        Ok(
+            Needs {
+                rows: needed,
+                row: _,
+                window,
+            },
+        ) => {
             *rows = needed;
             *bytes = window;
             0

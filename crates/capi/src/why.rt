@@ -2,6 +2,7 @@
 ghost use Rattle.std.specs.Prelude.{◌≡◌};
 ghost use Rattle.questions.specs.Position.{position_state};
 ghost use Rattle.capi.specs.Why.{why_call};
+
 use questions::position::position_state;
 use replies::answer_word;
 

@@ -24,9 +24,7 @@ pub fn dump(
 ) -> Verdict
     ensures { Dumped s t rows.now area.old from upto result area.new }
 {
-    if let Err(refusal) = dumpable::judge::judge_dump(s, t, rows, area) {
-        return Err(refusal);
-    }
+    dumpable::judge::judge_dump(s, t, rows, area)?;
     writer::write_dump(s, t, rows, area, from, upto);
     Ok(())
 }

@@ -197,8 +197,6 @@ pub fn part(
 ) -> Result<usize, Refusal>
     ensures { PartDumped s t rows.now at part.old result part.new }
 {
-    if let Err(refusal) = judge_held(s, t, rows) {
-        return Err(refusal);
-    }
+    judge_held(s, t, rows)?;
     Ok(write_part(s, t, rows, at, part))
 }

@@ -15,9 +15,7 @@ use words::refusal::Refusal;
 pub fn restore(s: Settings, image: &[u8], rows: &mut [u64]) -> Result<State, Refusal>
     ensures { Restores s image.now rows.old result rows.new }
 {
-    if let Err(refusal) = judge::judge_restore(s, image, rows) {
-        return Err(refusal);
-    }
+    judge::judge_restore(s, image, rows)?;
     reader::read_window(image, rows);
     Ok(reader::state_in(image))
 }

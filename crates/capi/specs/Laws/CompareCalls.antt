@@ -1,15 +1,16 @@
 -- ysh_compare: each of its refusals has a number and a place that an answer can hold, so the law over calls holds of it.
-use Rattle.std.specs.Prelude.{ℕ, ◌*◌, Bool, true, false, cond, ◌&&◌, List, leb, length, Ok}
+use Rattle.std.specs.Prelude.{ℕ, ◌*◌, Bool, true, false, cond, ◌&&◌, List, leb, length, Ok, Err}
 use Rattle.words.specs.Prelude.{arith}
 use Rattle.words.specs.{Words.overwrite}
 use Rattle.differences.specs.{Lines.line_words, Lines.differences, Lines.words_of, Compared.Comparison}
-use Rattle.differences.specs.{Compared.compared, Compared.written, Compared.whole, Compared.refused}
+use Rattle.differences.specs.{Compared.compared, Compared.written, Compared.whole}
 use Rattle.capi.specs.{Compare.LineRooms, Compare.compare_gives, Compare.compare_call, Laws.Calls.Numbered, Laws.Calls.Honest, Laws.Calls.honest}
 use Rattle.capi.specs.{Laws.Calls.one_refusal, Laws.Calls.never_refuses}
+use Rattle.words.specs.declared.refusal.Refusal.TheVariants as Refusal
 
 compare_by : (p q : Bool) (n : ℕ) (room lines : List ℕ) →
-    (let after = cond {A = Comparison} p (cond q (record { answer = Ok n; room = lines }) (record { answer = refused 10 15; room = room }))
-    (record { answer = refused 13 0; room = room }) in
+    (let after = cond {A = Comparison} p (cond q (record { answer = Ok n; room = lines }) (record { answer = Err (Refusal.Room 15); room = room }))
+    (record { answer = Err Refusal.Records; room = room }) in
     Numbered (compare_gives after.answer after.room))
 unfolding compare_gives
 compare_by true true n room lines = never_refuses _

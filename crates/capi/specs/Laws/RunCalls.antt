@@ -1,7 +1,7 @@
 -- The calls that begin a run, step over a bar, end a run and give the metrics: each of their refusals has a number and a place that an
 -- answer can hold, so of each the law over calls holds.
 use Rattle.std.specs.Prelude.{ℕ, ◌<◌, ◌^◌, ◌≡◌, refl, Bool, true, false, cond, List, ◌++◌, Err, Ok, Result}
-use Rattle.words.specs.Prelude.{arith}
+use Rattle.words.specs.Prelude.{arith, ap}
 use Rattle.words.specs.{declared.refusal.Refusal.Refusal, Outcome.Outcome, Outcome.gives, Outcome.refuses, Words.overwrite}
 use Rattle.floats.specs.{Floats.float_of}
 use Rattle.metrics.specs.{declared.Metrics.Metrics, Records.whole, Figures.not_whole, Figures.computed}

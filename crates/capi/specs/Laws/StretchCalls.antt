@@ -3,16 +3,17 @@ use Rattle.std.specs.Prelude.{ℕ, ◌<◌, ◌≡◌, refl, Bool, true, false, 
 use Rattle.words.specs.Prelude.{arith, ltb-true}
 use Rattle.words.specs.{Limits.most_count}
 use Rattle.floats.specs.{Floats.float_of, Floats.finite}
-use Rattle.blocks.specs.{declared.best.Best.Best, Append.Append, Append.appended, Append.kept, Append.unchanged, Append.refused, Append.place_for_block}
+use Rattle.blocks.specs.{declared.best.Best.Best, Append.Append, Append.appended, Append.kept, Append.unchanged, Append.place_for_block}
 use Rattle.blocks.specs.{Reads.reads, Reads.told}
 use Rattle.capi.specs.{Stretch.BlockRooms, Stretch.append_gives, Stretch.append_call, Stretch.stretch_gives, Stretch.stretch_call, Laws.Calls.Numbered}
 use Rattle.capi.specs.{Laws.Calls.Honest, Laws.Calls.honest, Laws.Calls.one_refusal, Laws.Calls.never_refuses}
 use Rattle.blocks.specs.Stretch as Stretch
+use Rattle.words.specs.declared.refusal.Refusal.TheVariants as Refusal
 
 append_by : (p q r s : Bool) (held : ℕ) (closes blocks : List ℕ) → (q ≡ true → held < most_count) → (k : Append)
     → Numbered (append_gives k.answer k.closes k.blocks) →
-    (let after = cond (p && q) (cond r (cond s k (unchanged (refused 11 held) closes blocks)) (unchanged (refused 10 13) closes blocks))
-    (unchanged (refused 10 12) closes blocks) in
+    (let after = cond (p && q) (cond r (cond s k (unchanged (Err (Refusal.Bar held)) closes blocks)) (unchanged (Err (Refusal.Room 13)) closes blocks))
+    (unchanged (Err (Refusal.Room 12)) closes blocks) in
     Numbered (append_gives after.answer after.closes after.blocks))
 unfolding append_gives
 append_by true true true true held closes blocks l k n = n
@@ -31,7 +32,7 @@ append_honest close before = honest _ before
     (finite (float_of close)) before.held before.closes before.blocks (ltb-true before.held most_count)
     (kept before.held close before.closes before.blocks) (never_refuses _))
 
-stretch_by : (p q : Bool) (best : Best) → Numbered (stretch_gives (cond p (cond q (Ok best) (Stretch.refused 18)) (Stretch.refused 13)))
+stretch_by : (p q : Bool) (best : Best) → Numbered (stretch_gives (cond p (cond q (Ok best) (Err Refusal.Stretch)) (Err Refusal.Records)))
 unfolding stretch_gives
 stretch_by true true best = never_refuses _
 stretch_by true false best = one_refusal _ (record { some = omega arith; number = omega arith; place = omega arith })

@@ -1,7 +1,7 @@
 -- The calls over a table, and over rows and lists of steps: each of their refusals has a number and a place that an answer can hold, so of
 -- each the law over calls holds.
 use Rattle.std.specs.Prelude.{ℕ, ◌+◌, ◌*◌, ◌<◌, ◌≤◌, ◌≡◌, refl, Bool, true, false, cond, not, ◌&&◌, List, eqb, ltb, leb, length, Err, None, Ok, Option, Result, Some}
-use Rattle.words.specs.Prelude.{arith, eqb-true, eqb-false}
+use Rattle.words.specs.Prelude.{arith, sym, ◌∙◌, ap}
 use Rattle.words.specs.{declared.refusal.Refusal.Refusal, Limits.most_slots, Limits.most_rows, Limits.most_reach, Limits.most_nodes, Limits.most_steps, Limits.trees}
 use Rattle.words.specs.{Outcome.Outcome}
 use Rattle.rows.specs.{History.whole_rows}
@@ -26,7 +26,6 @@ use Rattle.capi.specs.{Laws.Calls.FitsAnswer, Laws.Calls.Numbered, Laws.Calls.Ho
 use Rattle.needed.specs.{Outcome.needs}
 use Rattle.table.specs.{declared.answer.Accepted.Accepted}
 use Rattle.table.specs.{Outcome.accepts}
-use Rattle.words.specs.declared.refusal.Refusal.TheVariants as Refusal
 use Rattle.words.specs.{Outcome.number_of, Outcome.place_of}
 
 -- ---- the numbers of a table's refusals
@@ -67,15 +66,15 @@ rule_number : (rule : ℕ → Refusal) (q : Option ℕ) (a : Result Accepted Ref
 unfolding or_refused UpTo
 rule_number rule None a why says near below e = below e
 rule_number rule (Some p) a why says near below e =
-    let nine : OneToNine (rule p) = record { some = (says p).0; most = (says p).1.0; near = omega (arith, (says p).1.1, near) } in
+    let nine : OneToNine (rule p) = record { some = (says p).0; most = (says p).1; near = omega (arith, (says p).2, near) } in
     let same : rule p ≡ why = cc in rw same at nine
 
 header_or : (t : List ℕ) (a : Result Accepted Refusal) (why : Refusal) → (header_refusal newest_version t ≡ None → a ≡ Err why → OneToNine why)
     → or_header (header_refusal newest_version t) a ≡ Err why → OneToNine why
+unfolding or_header
 header_or t a why below = go (header_refusal newest_version t) refl
   where
     go : (header : Option Refusal) → header_refusal newest_version t ≡ header → or_header header a ≡ Err why → OneToNine why
-    unfolding or_header
     go None d f = below d f
     go (Some first) d f = let same : first ≡ why = cc in header_number t why (d ∙ ap (λ (r : Refusal). Some r) same)
 

@@ -7,6 +7,7 @@ use Rattle.totals.specs.{Totals.unless, Totals.total_words, Totals.counts_of, To
 use Rattle.totals.specs.{Totals.join_answer, Totals.join_leaves, Laws.Trades.length_trades}
 use Rattle.capi.specs.{Totals.totals_gives, Totals.totals_call, Totals.join_call, Laws.Calls.Numbered, Laws.Calls.Honest}
 use Rattle.capi.specs.{Laws.Calls.honest, Laws.Calls.one_refusal, Laws.Calls.never_refuses}
+use Rattle.words.specs.declared.refusal.Refusal.TheVariants as Refusal
 
 -- ---- a trade's number
 
@@ -33,7 +34,7 @@ number_below n trades = omega (arith, good_most (trades_from (judged_count n) 0 
 -- ---- the lines of the two orders
 
 add_by : (a b c d e : Bool) (at : ℕ) (after : List ℕ) → at < 2 ^ 32
-    → Numbered (totals_gives (unless a 10 11 (unless b 13 0 (unless c 13 0 (unless d 17 at (unless e 22 0 (Ok tt)))))) after)
+    → Numbered (totals_gives (unless a (Refusal.Room 11) (unless b Refusal.Records (unless c Refusal.Records (unless d (Refusal.Trade at) (unless e Refusal.Total (Ok tt)))))) after)
 unfolding totals_gives
 add_by false b c d e at after h = one_refusal _ (record { some = omega arith; number = omega arith; place = omega arith })
 add_by true false c d e at after h = one_refusal _ (record { some = omega arith; number = omega arith; place = omega arith })
@@ -43,7 +44,7 @@ add_by true true true true false at after h = one_refusal _ (record { some = ome
 add_by true true true true true at after h = never_refuses after
 
 join_by : (a b c d e : Bool) (after : List ℕ)
-    → Numbered (totals_gives (unless a 10 11 (unless b 13 0 (unless c 13 0 (unless d 13 0 (unless e 22 0 (Ok tt)))))) after)
+    → Numbered (totals_gives (unless a (Refusal.Room 11) (unless b Refusal.Records (unless c Refusal.Records (unless d Refusal.Records (unless e Refusal.Total (Ok tt)))))) after)
 unfolding totals_gives
 join_by false b c d e after = one_refusal _ (record { some = omega arith; number = omega arith; place = omega arith })
 join_by true false c d e after = one_refusal _ (record { some = omega arith; number = omega arith; place = omega arith })

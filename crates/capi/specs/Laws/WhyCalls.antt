@@ -11,7 +11,6 @@ use Rattle.chain.specs.{Explained.explained_by, Explained.explained, Explained.l
 use Rattle.capi.specs.{Why.WhyLent, Why.why_gives, Why.why_call, Laws.Calls.FitsAnswer, Laws.Calls.Numbered, Laws.Calls.Honest, Laws.Calls.honest}
 use Rattle.capi.specs.{Laws.Calls.one_refusal, Laws.Calls.never_refuses, Laws.TableCalls.table_number}
 use Rattle.table.specs.{declared.answer.Accepted.Accepted}
-use Rattle.words.specs.declared.refusal.Refusal.TheVariants as Refusal
 
 why_by : (few fine : Bool) (many : ℕ) (lines : List ℕ)
     → Numbered (why_gives (cond few (Err (Refusal.Room 10)) (cond fine (Ok many) (Err Refusal.Records))) lines)

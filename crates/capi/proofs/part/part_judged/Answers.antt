@@ -10,10 +10,10 @@ pub returns-in-Err : goal.returns-in-Err
 returns-in-Err c =
     part_short _ _ _ _ _ _ (sym c.judge_rooms.ensures ∙ c.in-Err.is) c.answer_word.ensures
 
-pub returns-in-Err : goal.returns-in-Err
-returns-in-Err c =
+pub returns-in-Err-parted : goal.returns-in-Err-parted
+returns-in-Err-parted c =
     part_refused _ _ _ _ _ _ (sym c.judge_rooms.ensures ∙ c.in_default.is) c.settings_of-chosen.ensures
-    c.state_of.ensures c.part-parted.ensures c.in-Err.is c.answer_word-in-Err.ensures
+    c.state_of.ensures c.part-parted.ensures c.in-Err-parted.is c.answer_word-in-Err-parted.ensures
 
 pub returns-in-Ok : goal.returns-in-Ok
 returns-in-Ok c =

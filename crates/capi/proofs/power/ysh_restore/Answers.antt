@@ -10,10 +10,10 @@ pub returns-in-Err : goal.returns-in-Err
 returns-in-Err c =
     restore_short _ _ _ _ (sym c.judge_rooms.ensures ∙ c.in-Err.is) c.answer_word.ensures
 
-pub returns-in-Err : goal.returns-in-Err
-returns-in-Err c =
+pub returns-in-Err-restored : goal.returns-in-Err-restored
+returns-in-Err-restored c =
     restore_refused _ _ _ _ (sym c.judge_rooms.ensures ∙ c.in_default.is) c.settings_of-chosen.ensures
-    c.restore-restored.ensures c.in-Err.is c.answer_word-in-Err.ensures
+    c.restore-restored.ensures c.in-Err-restored.is c.answer_word-in-Err-restored.ensures
 
 pub returns-in-Ok : goal.returns-in-Ok
 returns-in-Ok c =

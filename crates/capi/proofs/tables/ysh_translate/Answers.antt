@@ -19,18 +19,18 @@ returns-in-Ok c =
 
 pub overflow_mul-used : goal.overflow_mul-used
 overflow_mul-used c =
-    omega (arith, writes_within _ _ _ _ _ (sym c.translate-translated.ensures.value ∙ c.in-Ok.is) c.translate-translated.ensures.room_after)
+    omega (arith, writes_within _ _ _ _ _ (sym c.translate-translated.ensures.value ∙ c.in-Ok-translated.is) c.translate-translated.ensures.room_after)
 
-pub returns-in-Err : goal.returns-in-Err
+pub returns-in-Err-translated : goal.returns-in-Err-translated
 unfolding translate_call translate_outcome translate_gives room_left room_after
-returns-in-Err c =
-    let told = sym (rw c.numbered_tree.ensures at c.translate-translated.ensures.value) ∙ c.in-Err.is in
+returns-in-Err-translated c =
+    let told = sym (rw c.numbered_tree.ensures at c.translate-translated.ensures.value) ∙ c.in-Err-translated.is in
     let room = rw c.numbered_tree.ensures at c.translate-translated.ensures.room_after in
-    call_refuses _ _ (simp (lt-leb _ _ c.if-tree-ge-TREES.false, told)) c.answer_word-in-Err.ensures ∙ simp (room, told)
+    call_refuses _ _ (simp (lt-leb _ _ c.if-tree-ge-TREES.false, told)) c.answer_word-in-Err-translated.ensures ∙ simp (room, told)
 
-pub returns-in-Ok : goal.returns-in-Ok
+pub returns-in-Ok-translated : goal.returns-in-Ok-translated
 unfolding translate_call translate_outcome translate_gives
-returns-in-Ok c =
-    let told = sym (rw c.numbered_tree.ensures at c.translate-translated.ensures.value) ∙ c.in-Ok.is in
+returns-in-Ok-translated c =
+    let told = sym (rw c.numbered_tree.ensures at c.translate-translated.ensures.value) ∙ c.in-Ok-translated.is in
     let room = rw c.numbered_tree.ensures at c.translate-translated.ensures.room_after in
     call_does _ _ (simp (lt-leb _ _ c.if-tree-ge-TREES.false, told, room))

@@ -14,7 +14,7 @@ returns-then-is_stopped c = account_stopped _ _ _ _ _ _ _ c.if-count-eq0.false (
 pub returns-in-Err : goal.returns-in-Err
 returns-in-Err c =
     account_refused _ _ _ _ _ _ _ c.if-count-eq0.false (sym c.is_stopped.ensures ∙ c.if-is_stopped.false) c.settings_of-chosen.ensures
-    (sym c.judge_profile.ensures ∙ c.in-Err.is) c.stop.ensures
+    (sym c.judge_profile.ensures ∙ c.in-Err.is) (rw (c.number.ensures, c.place.ensures) at c.stop.ensures)
 
 pub ride-went-requires : goal.ride-went-requires
 ride-went-requires c = (
