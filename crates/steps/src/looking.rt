@@ -203,10 +203,10 @@ fn has_word(rows: &[u64], slots: usize, base: usize, slot: bool, which: u8) -> b
     true
 }
 
-// How many rows were passed, and the word of the best up to them.
+// How many rows are left, and the word of the best up to them.
 #[derive(Clone, Copy)]
 struct Quick {
-    passed: usize,
+    left: usize,
     best: u64,
 }
 
@@ -223,35 +223,35 @@ fn quick_rows(
     start: u64,
 ) -> Quick
     requires { (base + count * (7 + slots) ≤ length rows.now) × InRow slots slot which × (start < 0x7ff0_0000_0000_0000) }
-    ensures { (result.passed ≤ count) × (Some (float_of result.best)
-        ≡ best_after kind (over_of slot which) rows.now slots base (Some (float_of start)) result.passed) }
+    ensures { (result.left ≤ count) × (Some (float_of result.best)
+        ≡ best_after kind (over_of slot which) rows.now slots base (Some (float_of start)) (count - result.left)) }
 {
     let place = place_of(slot, which);
     let mut best = start;
     let mut at = base;
-    for passed in 0..count {
+    let mut left = count;
+    // A countdown by hand, since both `for passed in 0..count` and `.rev()` cost one instruction more a row: 9.8 in place of 8.8.
+    while 0 < left {
         if !has_word(rows, slots, at, slot, which) {
-            return Quick { passed, best };
+            return Quick { left, best };
         }
         let word = rows[at + place];
         if kind == kinds::HIGHEST {
             if best < word {
                 if INFINITY <= word {
-                    return Quick { passed, best };
+                    return Quick { left, best };
                 }
                 best = word;
             }
         } else if word < best {
             best = word;
         } else if INFINITY <= word {
-            return Quick { passed, best };
+            return Quick { left, best };
         }
         at += words::limits::ROW_FIXED + slots;
+        left -= 1;
     }
-    Quick {
-        passed: count,
-        best,
-    }
+    Quick { left, best }
 }
 
 // The row reached, and the best up to it.
@@ -287,7 +287,7 @@ fn quick_from(
             let count = (held - row).min(newest - at);
             let quick = quick_rows(kind, rows, slots, base, count, slot, which, word);
             return Looked {
-                at: at + quick.passed,
+                at: at + (count - quick.left),
                 best: floats::float_of(quick.best),
             };
         }
