@@ -1,22 +1,10 @@
 -- `check_nesting` meets its contract: rule 8 is broken, or what is left decides.
 -- Assumes nothing.
 use Rattle.words.specs.declared.refusal.Refusal.TheVariants as Refusal
-use Rattle.words.specs.Prelude.{sym, ◌∙◌, rules}
+use Rattle.words.specs.Prelude.{sym, ◌∙◌}
 use Rattle.table.proofs.{Final.stage_at, Final.stage_none}
 use Rattle.table.specs.{Checked.from8}
 use Rattle.table.proofs.check_nesting.Goals as goal
-
-pub too_deep-deep-requires : goal.too_deep-deep-requires
-unfolding from8
-too_deep-deep-requires c = search rules
-
-pub refused-requires : goal.refused-requires
-unfolding from8
-refused-requires c = search rules
-
-pub check_reach-requires : goal.check_reach-requires
-unfolding from8
-check_reach-requires c = search rules
 
 pub returns-in-Some : goal.returns-in-Some
 unfolding from8

@@ -1,11 +1,7 @@
 -- A mask of 64 bits has no others.
-use Rattle.words.specs.Prelude.{lt-ltb, le-ltb, rules}
+use Rattle.words.specs.Prelude.{lt-ltb, le-ltb}
 use Rattle.accounts.specs.{Own.low_bits}
 use Rattle.accounts.proofs.own.low_bits.Goals as goal
-
-pub power-requires : goal.power-requires
-unfolding low_bits
-power-requires c = search rules
 
 pub returns-then-slots-lt-MOST_SLOTS : goal.returns-then-slots-lt-MOST_SLOTS
 unfolding low_bits

@@ -1,13 +1,9 @@
 -- What does not fit changes nothing; else the parts are written.
-use Rattle.words.specs.Prelude.{◌+◌, ◌<◌, arith, lt-leb, le-leb, eqb-true, rules, length}
+use Rattle.words.specs.Prelude.{◌+◌, ◌<◌, arith, lt-leb, le-leb, eqb-true, length}
 use Rattle.words.specs.{Laws.Overwrite.overwrite_late}
 use Rattle.refusals.specs.{Laws.Descent.so, Laws.Descent.not_so}
 use Rattle.accounts.specs.{Laws.Own.own_length, Own.own_bar, Own.own_into}
 use Rattle.accounts.proofs.own.own_bar.Goals as goal
-
-pub is_whole-requires : goal.is_whole-requires
-unfolding own_into
-is_whole-requires c = search rules
 
 pub returns-then-not-is_whole : goal.returns-then-not-is_whole
 unfolding own_into

@@ -1,19 +1,11 @@
 -- One count after the other.
-use Rattle.words.specs.Prelude.{eq-eqb, ne_eqb, rules}
+use Rattle.words.specs.Prelude.{eq-eqb, ne_eqb}
 use Rattle.accounts.specs.{Profile.no_short_trees}
 use Rattle.accounts.proofs.profile.no_short_trees.Goals as goal
-
-pub count-requires : goal.count-requires
-unfolding no_short_trees
-count-requires c = search rules
 
 pub returns-then-count-ne0 : goal.returns-then-count-ne0
 unfolding no_short_trees
 returns-then-count-ne0 c = rw (← c.count.ensures.0, ne_eqb _ _ c.if-count-ne0.true)
-
-pub count-requires-2 : goal.count-requires-2
-unfolding no_short_trees
-count-requires-2 c = search rules
 
 pub returns : goal.returns
 unfolding no_short_trees

@@ -1,11 +1,7 @@
 -- The table, then the settings.
-use Rattle.words.specs.Prelude.{lt-leb, le-leb, rules}
+use Rattle.words.specs.Prelude.{lt-leb, le-leb}
 use Rattle.accounts.specs.{Profile.slots_within}
 use Rattle.accounts.proofs.profile.slots_within.Goals as goal
-
-pub slots-requires : goal.slots-requires
-unfolding slots_within
-slots-requires c = search rules
 
 pub returns-then-stream-slots : goal.returns-then-stream-slots
 unfolding slots_within

@@ -1,5 +1,5 @@
 -- A count that is full, then the bar.
-use Rattle.words.specs.Prelude.{lt-ltb, le-ltb, rules}
+use Rattle.words.specs.Prelude.{lt-ltb, le-ltb}
 use Rattle.refusals.specs.{Laws.Descent.fine_line, Laws.Descent.bad_line}
 use Rattle.accounts.specs.{Stream.stream_bar_lines}
 use Rattle.accounts.proofs.stream.judge_next.Goals as goal
@@ -7,10 +7,6 @@ use Rattle.accounts.proofs.stream.judge_next.Goals as goal
 pub returns-then-seen-ge-MOST_COUNT : goal.returns-then-seen-ge-MOST_COUNT
 unfolding stream_bar_lines
 returns-then-seen-ge-MOST_COUNT c = bad_line _ _ (le-ltb _ _ c.if-seen-ge-MOST_COUNT.true)
-
-pub judge_bar-requires : goal.judge_bar-requires
-unfolding stream_bar_lines
-judge_bar-requires c = search rules
 
 pub returns : goal.returns
 unfolding stream_bar_lines

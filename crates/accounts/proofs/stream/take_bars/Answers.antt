@@ -1,15 +1,11 @@
 -- No bars, a stream that is not fine, or bar after bar.
-use Rattle.words.specs.Prelude.{sym, ◌∙◌, rules}
+use Rattle.words.specs.Prelude.{sym, ◌∙◌}
 use Rattle.accounts.specs.{Stream.taken_unless, Stream.stream_taken}
 use Rattle.accounts.proofs.stream.take_bars.Goals as goal
 
 pub returns-then-is_empty : goal.returns-then-is_empty
 unfolding stream_taken
 returns-then-is_empty c = rw (sym c.is_empty.ensures ∙ c.if-is_empty.true)
-
-pub judge_stream-requires : goal.judge_stream-requires
-unfolding stream_taken
-judge_stream-requires c = search rules
 
 pub returns-in-Err : goal.returns-in-Err
 unfolding stream_taken taken_unless

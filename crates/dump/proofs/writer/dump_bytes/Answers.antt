@@ -1,5 +1,5 @@
 -- Three tests, and the sum.
-use Rattle.words.specs.Prelude.{◌≤◌, arith, le-leb, lt-leb, rules}
+use Rattle.words.specs.Prelude.{◌≤◌, arith, le-leb, lt-leb}
 use Rattle.images.specs.{Layout.dump_bytes, Layout.size_for}
 use Rattle.dump.proofs.{Whole.few_bytes}
 use Rattle.dump.proofs.writer.dump_bytes.Goals as goal
@@ -16,10 +16,6 @@ pub returns-then-depth-gt-MOST_ROWS : goal.returns-then-depth-gt-MOST_ROWS
 unfolding size_for
 returns-then-depth-gt-MOST_ROWS c =
     simp (le-leb _ _ c.if-slots-gt-MOST_SLOTS.false, le-leb _ _ c.if-depth-lt1.false, lt-leb _ _ c.if-depth-gt-MOST_ROWS.true)
-
-pub body_words-requires : goal.body_words-requires
-unfolding size_for
-body_words-requires c = search rules
 
 pub overflow_mul-result : goal.overflow_mul-result
 unfolding size_for

@@ -1,5 +1,5 @@
 -- The two lengths, and the rest.
-use Rattle.words.specs.Prelude.{le-leb, lt-leb, rules}
+use Rattle.words.specs.Prelude.{le-leb, lt-leb}
 use Rattle.dumpable.specs.{Laws.Passing.words_pass}
 use Rattle.dumpable.proofs.passing.words_pass.Goals as goal
 
@@ -10,10 +10,6 @@ returns-then-settings-lt-SETTING_WORDS c = simp (lt-leb _ _ c.if-settings-lt-SET
 pub returns-then-state-lt-STATE_WORDS : goal.returns-then-state-lt-STATE_WORDS
 unfolding words_pass
 returns-then-state-lt-STATE_WORDS c = simp (le-leb _ _ c.if-settings-lt-SETTING_WORDS.false, lt-leb _ _ c.if-state-lt-STATE_WORDS.true)
-
-pub whole_pass-requires : goal.whole_pass-requires
-unfolding words_pass
-whole_pass-requires c = search rules
 
 pub returns : goal.returns
 unfolding words_pass

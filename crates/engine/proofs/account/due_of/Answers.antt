@@ -1,5 +1,5 @@
 -- Order by order, with the test of the definition.
-use Rattle.words.specs.Prelude.{rules, le-ltb, lt-ltb}
+use Rattle.words.specs.Prelude.{le-ltb, lt-ltb}
 use Rattle.engine.specs.{Account.due_of}
 use Rattle.engine.proofs.account.due_of.Goals as goal
 
@@ -7,17 +7,9 @@ pub returns-then-n-gt0 : goal.returns-then-n-gt0
 unfolding due_of
 returns-then-n-gt0 c = simp (lt-ltb _ _ c.if-n-gt0.true, c.in-EnterLong.is)
 
-pub due_if_reached-requires : goal.due_if_reached-requires
-unfolding due_of
-due_if_reached-requires c = search rules
-
 pub returns-then-n-gt0-2 : goal.returns-then-n-gt0-2
 unfolding due_of
 returns-then-n-gt0-2 c = simp (lt-ltb _ _ c.if-n-gt0-2.true, c.in-EnterShort.is)
-
-pub due_if_reached-requires-in-EnterShort : goal.due_if_reached-requires-in-EnterShort
-unfolding due_of
-due_if_reached-requires-in-EnterShort c = search rules
 
 pub returns-then-n-gt0-3 : goal.returns-then-n-gt0-3
 unfolding due_of

@@ -1,24 +1,7 @@
 -- What is due is done.
-use Rattle.words.specs.Prelude.{rules}
 use Rattle.engine.specs.{Account.done_of}
 use Rattle.engine.proofs.{Dues.so_filled}
 use Rattle.engine.proofs.account.fill_working_order.Goals as goal
-
-pub due_of-due-requires : goal.due_of-due-requires
-unfolding done_of
-due_of-due-requires c = search rules
-
-pub wait-requires : goal.wait-requires
-unfolding done_of
-wait-requires c = search rules
-
-pub enter-requires : goal.enter-requires
-unfolding done_of
-enter-requires c = search rules
-
-pub leave-requires : goal.leave-requires
-unfolding done_of
-leave-requires c = search rules
 
 pub returns-in-Waits : goal.returns-in-Waits
 unfolding done_of

@@ -1,23 +1,11 @@
 -- An order that works stays; with none, warmup is tested, and the rules are asked over what they read.
-use Rattle.words.specs.Prelude.{le-ltb, lt-ltb, rules}
+use Rattle.words.specs.Prelude.{le-ltb, lt-ltb}
 use Rattle.engine.specs.{Decide.order_after, Decide.state_at, InPlace.decided_from}
 use Rattle.engine.proofs.decide.decide_next_action.Goals as goal
 
 pub returns-then-number-s : goal.returns-then-number-s
 unfolding decided_from order_after
 returns-then-number-s c = simp (lt-ltb _ _ c.if-number-s.true, c.in-Idle.is)
-
-pub entry_trigger-kind-requires : goal.entry_trigger-kind-requires
-unfolding decided_from order_after
-entry_trigger-kind-requires c = search rules
-
-pub read_from-window-requires : goal.read_from-window-requires
-unfolding decided_from order_after
-read_from-window-requires c = search rules
-
-pub order_of-requires : goal.order_of-requires
-unfolding decided_from order_after
-order_of-requires c = search rules
 
 pub returns-in-EnterLong : goal.returns-in-EnterLong
 unfolding decided_from order_after

@@ -1,5 +1,5 @@
 -- An empty list says no; else the run's answer.
-use Rattle.words.specs.Prelude.{◌≡◌, sym, rules, arith, length}
+use Rattle.words.specs.Prelude.{◌≡◌, sym, arith, length}
 use Rattle.std.proofs.lemmas.Grind.{common_steps}
 use Rattle.steps.specs.{Laws.Empty.empty_no}
 use Rattle.engine.specs.{Decide.list_says}
@@ -10,10 +10,6 @@ unfolding list_says
 returns-then-is_empty c =
     let none : length c.args.list.now ≡ 0 = grind (arith, common_steps) in
     sym (empty_no _ _ _ none)
-
-pub run_ring-ran-requires : goal.run_ring-ran-requires
-unfolding list_says
-run_ring-ran-requires c = search rules
 
 pub returns : goal.returns
 unfolding list_says

@@ -1,5 +1,5 @@
 -- `realized_vol_ring`: too short a lookback, too few rows; then the two passes, as the law of them says.
-use Rattle.words.specs.Prelude.{lt-ltb, le-ltb, ◌≡◌, ◌≤◌, arith, rules}
+use Rattle.words.specs.Prelude.{lt-ltb, le-ltb, ◌≡◌, ◌≤◌, arith}
 use Rattle.rows.specs.{History.history_of, Ring.ring_of, Laws.Ring.first_fits, Laws.Ring.ring_first}
 use Rattle.execution.specs.{Volatility.realized_vol}
 use Rattle.execution.proofs.{Realized.no_returns, Realized.some_returns}
@@ -9,17 +9,9 @@ pub returns-then-lookback-lt2 : goal.returns-then-lookback-lt2
 unfolding realized_vol ring_of
 returns-then-lookback-lt2 c = simp (lt-ltb _ _ c.if-lookback-lt2.true)
 
-pub row_count-held-requires : goal.row_count-held-requires
-unfolding realized_vol ring_of
-row_count-held-requires c = search rules
-
 pub returns-then-held-back : goal.returns-then-held-back
 unfolding realized_vol ring_of
 returns-then-held-back c = simp (le-ltb _ _ c.if-lookback-lt2.false, ← c.row_count-held.ensures, lt-ltb _ _ c.if-held-back.true)
-
-pub first_of-oldest-requires : goal.first_of-oldest-requires
-unfolding realized_vol ring_of
-first_of-oldest-requires c = search rules
 
 pub tally_of-sum-requires : goal.tally_of-sum-requires
 unfolding realized_vol ring_of
@@ -37,24 +29,12 @@ returns-then-sum-eq0 c =
     rw (← same)
     (no_returns _ _ _ c.row_count-held.ensures c.if-lookback-lt2.false c.if-held-back.false _ c.tally_of-sum.ensures c.if-sum-eq0.true)
 
-pub counted-n-requires : goal.counted-n-requires
-unfolding realized_vol ring_of
-counted-n-requires c = search rules
-
 pub tally_of-squares-requires : goal.tally_of-squares-requires
 unfolding realized_vol ring_of
 tally_of-squares-requires c =
     let begun : let a = c.args in
     (c.row_count-held.result ≡ (history_of a.slots a.rows.now).rows) × (c.first_of-oldest.result ≤ c.row_count-held.result) = (c.row_count-held.ensures, rw c.first_of-oldest.ensures (first_fits _ _)) in
     let b = begun in (b.0, b.1, omega arith, omega arith)
-
-pub sqrt-requires : goal.sqrt-requires
-unfolding realized_vol ring_of
-sqrt-requires c = search rules
-
-pub if_positive-requires : goal.if_positive-requires
-unfolding realized_vol ring_of
-if_positive-requires c = search rules
 
 pub returns : goal.returns
 unfolding ring_of

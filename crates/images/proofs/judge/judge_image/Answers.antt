@@ -1,31 +1,19 @@
 -- Six lines: those passed hold, and the first that does not decides.
-use Rattle.words.specs.Prelude.{refl, arith, rules}
+use Rattle.words.specs.Prelude.{refl, arith}
 use Rattle.refusals.specs.Laws.Descent.{so, not_so, Below, top, past, stop, all_hold}
 use Rattle.images.specs.{Refused.image_lines, Laws.Fine.shape_fine_lem, Laws.Fine.rows_few, Laws.Fine.rows_within}
 use Rattle.images.proofs.{Testing.equal, Testing.other}
 use Rattle.images.proofs.judge.judge_image.Goals as goal
 
-pub shape_fine-requires : goal.shape_fine-requires
-unfolding image_lines
-shape_fine-requires c = search rules
-
 pub returns-then-not-shape_fine : goal.returns-then-not-shape_fine
 unfolding image_lines
 returns-then-not-shape_fine c = stop top refl (not_so c.shape_fine.ensures c.if-not-shape_fine.true-raw)
-
-pub numbers_fine-requires : goal.numbers_fine-requires
-unfolding image_lines
-numbers_fine-requires c = search rules
 
 pub returns-then-not-numbers_fine : goal.returns-then-not-numbers_fine
 unfolding image_lines
 returns-then-not-numbers_fine c =
     let past1 : (Below (image_lines c.args.image.now)) = past top refl (so c.shape_fine.ensures c.if-not-shape_fine.false-raw) in
     stop past1 refl (not_so c.numbers_fine.ensures c.if-not-numbers_fine.true-raw)
-
-pub unused_zero-requires : goal.unused_zero-requires
-unfolding image_lines
-unused_zero-requires c = search rules
 
 pub returns-then-not-unused_zero : goal.returns-then-not-unused_zero
 unfolding image_lines
@@ -34,10 +22,6 @@ returns-then-not-unused_zero c =
     past past1 refl (so c.numbers_fine.ensures c.if-not-numbers_fine.false-raw) in
     stop past2 refl (not_so c.unused_zero.ensures c.if-not-unused_zero.true-raw)
 
-pub byte-requires : goal.byte-requires
-unfolding image_lines
-byte-requires c = search rules
-
 pub returns-then-byte-ne0 : goal.returns-then-byte-ne0
 unfolding image_lines
 returns-then-byte-ne0 c =
@@ -45,10 +29,6 @@ returns-then-byte-ne0 c =
     past past1 refl (so c.numbers_fine.ensures c.if-not-numbers_fine.false-raw) in
     past past2 refl (so c.unused_zero.ensures c.if-not-unused_zero.false-raw) in
     stop past3 refl (other c.byte.ensures c.if-byte-ne0.true)
-
-pub zero_at-requires : goal.zero_at-requires
-unfolding image_lines
-zero_at-requires c = search rules
 
 pub returns-then-not-zero_at : goal.returns-then-not-zero_at
 unfolding image_lines

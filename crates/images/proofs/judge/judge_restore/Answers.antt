@@ -5,19 +5,11 @@ use Rattle.refusals.specs.Laws.Descent.{Below, top, past_block, stop_block, last
 use Rattle.images.specs.{Refused.restore_judged, Refused.restore_lines}
 use Rattle.images.proofs.judge.judge_restore.Goals as goal
 
-pub judge_room-requires : goal.judge_room-requires
-unfolding restore_judged restore_lines
-judge_room-requires c = search rules
-
 pub returns-in_err-judge_room : goal.returns-in_err-judge_room
 unfolding restore_judged restore_lines
 returns-in_err-judge_room c =
     let given : c.from_residual.result ≡ Err c.in_err-judge_room.field-0.0 = search rules in
     given ∙ stop_block top _ _ c.judge_room.ensures refl c.in_err-judge_room.was
-
-pub judge_settings-requires : goal.judge_settings-requires
-unfolding restore_judged restore_lines
-judge_settings-requires c = search rules
 
 pub returns-in_err-judge_settings : goal.returns-in_err-judge_settings
 unfolding restore_judged restore_lines
@@ -26,10 +18,6 @@ returns-in_err-judge_settings c =
     let given : c.from_residual-in_err-judge_settings.result ≡ Err c.in_err-judge_settings.field-0.0 = search rules in
     given ∙ stop_block past1 _ _ c.judge_settings.ensures refl c.in_err-judge_settings.was
 
-pub judge_image-requires : goal.judge_image-requires
-unfolding restore_judged restore_lines
-judge_image-requires c = search rules
-
 pub returns-in_err-judge_image : goal.returns-in_err-judge_image
 unfolding restore_judged restore_lines
 returns-in_err-judge_image c =
@@ -37,10 +25,6 @@ returns-in_err-judge_image c =
     past_block past1 _ _ c.judge_settings.ensures refl c.in_ok-judge_settings.was in
     let given : c.from_residual-in_err-judge_image.result ≡ Err c.in_err-judge_image.field-0.0 = search rules in
     given ∙ stop_block past2 _ _ c.judge_image.ensures refl c.in_err-judge_image.was
-
-pub judge_same-requires : goal.judge_same-requires
-unfolding restore_judged restore_lines
-judge_same-requires c = search rules
 
 pub returns : goal.returns
 unfolding restore_judged restore_lines

@@ -1,4 +1,4 @@
-use Rattle.words.specs.Prelude.{ℕ, ◌+◌, ◌≡◌, sym, Bool, List, arith, eqb, get_or, rules}
+use Rattle.words.specs.Prelude.{ℕ, ◌+◌, ◌≡◌, sym, Bool, List, arith, eqb, get_or}
 use Rattle.refusals.specs.{Laws.Every.every_none, Laws.Every.every_more, Laws.Every.every_no}
 use Rattle.images.specs.{Refused.zero_at}
 use Rattle.images.proofs.{Testing.equal, Testing.other}
@@ -10,10 +10,6 @@ is_zero x at i = eqb (get_or x (at + i) 0) 0
 pub loop-i-init : goal.loop-i-init
 unfolding zero_at
 loop-i-init c = let a = c.args in every_none (is_zero a.image.now a.at)
-
-pub byte-requires : goal.byte-requires
-unfolding zero_at
-byte-requires c = search rules
 
 pub returns-then-byte-ne0 : goal.returns-then-byte-ne0
 unfolding zero_at

@@ -1,29 +1,13 @@
-use Rattle.words.specs.Prelude.{rules, refl, sym, ◌∙◌, List, arith, Float}
+use Rattle.words.specs.Prelude.{refl, sym, ◌∙◌, List, arith, Float}
 use Rattle.metrics.specs.{Records.pnls_of, Trades.sizes_on, Trades.gross}
 use Rattle.floats.specs.{Sums.sum_from}
 use Rattle.metrics.proofs.{Walks.turn_on, Walks.done}
 use Rattle.metrics.proofs.trades.gross.Goals as goal
 use Rattle.metrics.proofs.trades.gross.Goals.{then-is_on, else-is_on}
 
-pub trade_count-n-requires : goal.trade_count-n-requires
-unfolding gross
-trade_count-n-requires c = search rules
-
 pub loop-i-init : goal.loop-i-init
 unfolding gross
 loop-i-init c = refl
-
-pub pnl_at-pnl-requires : goal.pnl_at-pnl-requires
-unfolding gross
-pnl_at-pnl-requires c = search rules
-
-pub is_on-requires : goal.is_on-requires
-unfolding gross
-is_on-requires c = search rules
-
-pub size_of-total-requires : goal.size_of-total-requires
-unfolding gross
-size_of-total-requires c = search rules
 
 pub loop-i-preserved : goal.loop-i-preserved
 unfolding sum_from

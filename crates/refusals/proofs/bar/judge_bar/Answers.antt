@@ -1,34 +1,18 @@
 -- The candle is one test, the slots and the funding two more.
-use Rattle.words.specs.Prelude.{refl, ap, ◌∙◌, rules}
+use Rattle.words.specs.Prelude.{refl, ap, ◌∙◌}
 use Rattle.refusals.specs.{Bar.funding_fine, Bar.bar_lines}
 use Rattle.refusals.specs.Laws.Descent.{so, not_so, Below, top, past, stop, all_hold}
 use Rattle.refusals.proofs.bar.judge_bar.Goals as goal
 
-pub candle_fine-requires : goal.candle_fine-requires
-unfolding bar_lines
-candle_fine-requires c = search rules
-
 pub returns-then-not-candle_fine : goal.returns-then-not-candle_fine
 unfolding bar_lines
 returns-then-not-candle_fine c = stop top refl (not_so c.candle_fine.ensures c.if-not-candle_fine.true-raw)
-
-pub slots_fine-requires : goal.slots_fine-requires
-unfolding bar_lines
-slots_fine-requires c = search rules
 
 pub returns-then-not-slots_fine : goal.returns-then-not-slots_fine
 unfolding bar_lines
 returns-then-not-slots_fine c =
     let past1 : (Below (bar_lines c.args.slots c.args.bar.now c.args.seen)) = past top refl (so c.candle_fine.ensures c.if-not-candle_fine.false-raw) in
     stop past1 refl (not_so c.slots_fine.ensures c.if-not-slots_fine.true-raw)
-
-pub funding_of-requires : goal.funding_of-requires
-unfolding bar_lines
-funding_of-requires c = search rules
-
-pub funding_fine-requires : goal.funding_fine-requires
-unfolding bar_lines
-funding_fine-requires c = search rules
 
 pub returns-then-not-funding_fine : goal.returns-then-not-funding_fine
 unfolding bar_lines

@@ -6,19 +6,11 @@ use Rattle.refusals.specs.{Day.day_lines, Laws.Fine.settings_fine}
 use Rattle.refusals.specs.Laws.Descent.{Below, top, past, stop, past_block, stop_block, all_hold}
 use Rattle.refusals.proofs.day.judge_day.Goals as goal
 
-pub judge_room-requires : goal.judge_room-requires
-unfolding day_lines
-judge_room-requires c = search rules
-
 pub returns-in_err-judge_room : goal.returns-in_err-judge_room
 unfolding day_lines
 returns-in_err-judge_room c =
     let given : c.from_residual.result ≡ Err c.in_err-judge_room.field-0.0 = search rules in
     given ∙ stop_block top _ _ c.judge_room.ensures refl c.in_err-judge_room.was
-
-pub judge_settings-requires : goal.judge_settings-requires
-unfolding day_lines
-judge_settings-requires c = search rules
 
 pub returns-in_err-judge_settings : goal.returns-in_err-judge_settings
 unfolding day_lines
@@ -27,10 +19,6 @@ returns-in_err-judge_settings c =
     Below (day_lines a.span a.s a.t a.bars.now (rooms a.rows.now a.equity.now a.trades.now))) = past_block top _ _ c.judge_room.ensures refl c.in_ok-judge_room.was in
     let given : c.from_residual-in_err-judge_settings.result ≡ Err c.in_err-judge_settings.field-0.0 = search rules in
     given ∙ stop_block past1 _ _ c.judge_settings.ensures refl c.in_err-judge_settings.was
-
-pub judge_state-requires : goal.judge_state-requires
-unfolding day_lines
-judge_state-requires c = search rules
 
 pub returns-in_err-judge_state : goal.returns-in_err-judge_state
 unfolding day_lines

@@ -1,30 +1,18 @@
 -- Line by line: those passed hold, and the first that does not decides.
-use Rattle.words.specs.Prelude.{refl, rules}
+use Rattle.words.specs.Prelude.{refl}
 use Rattle.refusals.specs.{Settings.entry_lines}
 use Rattle.refusals.specs.Laws.Descent.{so, not_so, Below, top, past, stop, all_hold}
 use Rattle.refusals.proofs.entries.judge_entries.Goals as goal
 
-pub order_type_known-requires : goal.order_type_known-requires
-unfolding entry_lines
-order_type_known-requires c = search rules
-
 pub returns-then-not-order_type_known : goal.returns-then-not-order_type_known
 unfolding entry_lines
 returns-then-not-order_type_known c = stop top refl (not_so c.order_type_known.ensures c.if-not-order_type_known.true-raw)
-
-pub is_finite-requires : goal.is_finite-requires
-unfolding entry_lines
-is_finite-requires c = search rules
 
 pub returns-then-not-is_finite : goal.returns-then-not-is_finite
 unfolding entry_lines
 returns-then-not-is_finite c =
     let past1 : (Below (entry_lines c.args.e c.args.lot)) = past top refl (so c.order_type_known.ensures c.if-not-order_type_known.false-raw) in
     stop past1 refl (not_so c.is_finite.ensures c.if-not-is_finite.true-raw)
-
-pub is_finite-requires-2 : goal.is_finite-requires-2
-unfolding entry_lines
-is_finite-requires-2 c = search rules
 
 pub returns-then-not-is_finite-2 : goal.returns-then-not-is_finite-2
 unfolding entry_lines
@@ -33,10 +21,6 @@ returns-then-not-is_finite-2 c =
     past past1 refl (so c.is_finite.ensures c.if-not-is_finite.false-raw) in
     stop past2 refl (not_so c.is_finite-2.ensures c.if-not-is_finite-2.true-raw)
 
-pub is_finite-requires-3 : goal.is_finite-requires-3
-unfolding entry_lines
-is_finite-requires-3 c = search rules
-
 pub returns-then-not-is_finite-3 : goal.returns-then-not-is_finite-3
 unfolding entry_lines
 returns-then-not-is_finite-3 c =
@@ -44,10 +28,6 @@ returns-then-not-is_finite-3 c =
     past past1 refl (so c.is_finite.ensures c.if-not-is_finite.false-raw) in
     past past2 refl (so c.is_finite-2.ensures c.if-not-is_finite-2.false-raw) in
     stop past3 refl (not_so c.is_finite-3.ensures c.if-not-is_finite-3.true-raw)
-
-pub lot_fine-requires : goal.lot_fine-requires
-unfolding entry_lines
-lot_fine-requires c = search rules
 
 pub returns-then-not-lot_fine : goal.returns-then-not-lot_fine
 unfolding entry_lines

@@ -1,13 +1,9 @@
 -- One line: places for D rows.
-use Rattle.words.specs.Prelude.{refl, lt-leb, le-leb, rules}
+use Rattle.words.specs.Prelude.{refl, lt-leb, le-leb}
 use Rattle.rows.specs.{History.history_of}
 use Rattle.refusals.specs.{Rooms.room_lines}
 use Rattle.refusals.specs.Laws.Descent.{top, past, stop, all_hold}
 use Rattle.refusals.proofs.rooms.judge_room.Goals as goal
-
-pub row_count-requires : goal.row_count-requires
-unfolding room_lines history_of
-row_count-requires c = search rules
 
 pub returns-then-row_count-s : goal.returns-then-row_count-s
 unfolding room_lines history_of

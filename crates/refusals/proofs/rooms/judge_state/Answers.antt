@@ -1,31 +1,19 @@
 -- Counts and rooms are one test each, and the entry bar a third.
-use Rattle.words.specs.Prelude.{refl, rules}
+use Rattle.words.specs.Prelude.{refl}
 use Rattle.records.specs.{Lent.rooms}
 use Rattle.refusals.specs.{Rooms.state_lines}
 use Rattle.refusals.specs.Laws.Descent.{so, not_so, Below, top, past, stop, all_hold}
 use Rattle.refusals.proofs.rooms.judge_state.Goals as goal
 
-pub counts_fine-requires : goal.counts_fine-requires
-unfolding state_lines
-counts_fine-requires c = search rules
-
 pub returns-then-not-counts_fine : goal.returns-then-not-counts_fine
 unfolding state_lines
 returns-then-not-counts_fine c = stop top refl (not_so c.counts_fine.ensures c.if-not-counts_fine.true-raw)
-
-pub held_fine-requires : goal.held_fine-requires
-unfolding state_lines
-held_fine-requires c = search rules
 
 pub returns-then-not-held_fine : goal.returns-then-not-held_fine
 unfolding state_lines
 returns-then-not-held_fine c =
     let past1 : (let a = c.args in Below (state_lines a.s a.t (rooms a.rows.now a.equity.now a.trades.now))) = past top refl (so c.counts_fine.ensures c.if-not-counts_fine.false-raw) in
     stop past1 refl (not_so c.held_fine.ensures c.if-not-held_fine.true-raw)
-
-pub entry_below-requires : goal.entry_below-requires
-unfolding state_lines
-entry_below-requires c = search rules
 
 pub returns-then-not-entry_below : goal.returns-then-not-entry_below
 unfolding state_lines

@@ -1,20 +1,12 @@
 -- Line by line: those passed hold, and the first that does not decides.
-use Rattle.words.specs.Prelude.{refl, rules}
+use Rattle.words.specs.Prelude.{refl}
 use Rattle.refusals.specs.{Settings.risk_lines}
 use Rattle.refusals.specs.Laws.Descent.{so, not_so, Below, top, past, stop, all_hold}
 use Rattle.refusals.proofs.setting.judge_risk.Goals as goal
 
-pub stop_there-requires : goal.stop_there-requires
-unfolding risk_lines
-stop_there-requires c = search rules
-
 pub returns-then-not-stop_there : goal.returns-then-not-stop_there
 unfolding risk_lines
 returns-then-not-stop_there c = stop top refl (not_so c.stop_there.ensures c.if-not-stop_there.true-raw)
-
-pub level_fine-requires : goal.level_fine-requires
-unfolding risk_lines
-level_fine-requires c = search rules
 
 pub returns-then-not-level_fine : goal.returns-then-not-level_fine
 unfolding risk_lines
@@ -22,20 +14,12 @@ returns-then-not-level_fine c =
     let past1 : (Below (risk_lines c.args.sizing c.args.risk)) = past top refl (so c.stop_there.ensures c.if-not-stop_there.false-raw) in
     stop past1 refl (not_so c.level_fine.ensures c.if-not-level_fine.true-raw)
 
-pub level_fine-requires-2 : goal.level_fine-requires-2
-unfolding risk_lines
-level_fine-requires-2 c = search rules
-
 pub returns-then-not-level_fine-2 : goal.returns-then-not-level_fine-2
 unfolding risk_lines
 returns-then-not-level_fine-2 c =
     let past2 : (Below (risk_lines c.args.sizing c.args.risk)) = let past1 : (Below (risk_lines c.args.sizing c.args.risk)) = past top refl (so c.stop_there.ensures c.if-not-stop_there.false-raw) in
     past past1 refl (so c.level_fine.ensures c.if-not-level_fine.false-raw) in
     stop past2 refl (not_so c.level_fine-2.ensures c.if-not-level_fine-2.true-raw)
-
-pub level_fine-requires-3 : goal.level_fine-requires-3
-unfolding risk_lines
-level_fine-requires-3 c = search rules
 
 pub returns-then-not-level_fine-3 : goal.returns-then-not-level_fine-3
 unfolding risk_lines
@@ -45,10 +29,6 @@ returns-then-not-level_fine-3 c =
     past past2 refl (so c.level_fine-2.ensures c.if-not-level_fine-2.false-raw) in
     stop past3 refl (not_so c.level_fine-3.ensures c.if-not-level_fine-3.true-raw)
 
-pub level_fine-requires-4 : goal.level_fine-requires-4
-unfolding risk_lines
-level_fine-requires-4 c = search rules
-
 pub returns-then-not-level_fine-4 : goal.returns-then-not-level_fine-4
 unfolding risk_lines
 returns-then-not-level_fine-4 c =
@@ -57,10 +37,6 @@ returns-then-not-level_fine-4 c =
     past past2 refl (so c.level_fine-2.ensures c.if-not-level_fine-2.false-raw) in
     past past3 refl (so c.level_fine-3.ensures c.if-not-level_fine-3.false-raw) in
     stop past4 refl (not_so c.level_fine-4.ensures c.if-not-level_fine-4.true-raw)
-
-pub level_fine-requires-5 : goal.level_fine-requires-5
-unfolding risk_lines
-level_fine-requires-5 c = search rules
 
 pub returns-then-not-level_fine-5 : goal.returns-then-not-level_fine-5
 unfolding risk_lines

@@ -9,19 +9,11 @@ pub returns-then-s-gt-MOST_SLOTS : goal.returns-then-s-gt-MOST_SLOTS
 unfolding setting_lines
 returns-then-s-gt-MOST_SLOTS c = stop top refl (lt-leb _ _ c.if-s-gt-MOST_SLOTS.true)
 
-pub depth_fine-requires : goal.depth_fine-requires
-unfolding setting_lines
-depth_fine-requires c = search rules
-
 pub returns-then-not-depth_fine : goal.returns-then-not-depth_fine
 unfolding setting_lines
 returns-then-not-depth_fine c =
     let past1 : (Below (setting_lines c.args.s)) = past top refl (le-leb _ _ c.if-s-gt-MOST_SLOTS.false) in
     stop past1 refl (not_so c.depth_fine.ensures c.if-not-depth_fine.true-raw)
-
-pub is_finite-requires : goal.is_finite-requires
-unfolding setting_lines
-is_finite-requires c = search rules
 
 pub returns-then-not-is_finite : goal.returns-then-not-is_finite
 unfolding setting_lines
@@ -29,10 +21,6 @@ returns-then-not-is_finite c =
     let past2 : (Below (setting_lines c.args.s)) = let past1 : (Below (setting_lines c.args.s)) = past top refl (le-leb _ _ c.if-s-gt-MOST_SLOTS.false) in
     past past1 refl (so c.depth_fine.ensures c.if-not-depth_fine.false-raw) in
     stop past2 refl (not_so c.is_finite.ensures c.if-not-is_finite.true-raw)
-
-pub judge_terms-requires : goal.judge_terms-requires
-unfolding setting_lines
-judge_terms-requires c = search rules
 
 pub returns-in_err-judge_terms : goal.returns-in_err-judge_terms
 unfolding setting_lines
@@ -42,10 +30,6 @@ returns-in_err-judge_terms c =
     past past2 refl (so c.is_finite.ensures c.if-not-is_finite.false-raw) in
     let given : c.from_residual.result ≡ Err c.in_err-judge_terms.field-0.0 = search rules in
     given ∙ stop_block past3 _ _ c.judge_terms.ensures refl c.in_err-judge_terms.was
-
-pub judge_entries-requires : goal.judge_entries-requires
-unfolding setting_lines
-judge_entries-requires c = search rules
 
 pub returns : goal.returns
 unfolding setting_lines

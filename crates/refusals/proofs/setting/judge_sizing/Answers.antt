@@ -1,25 +1,13 @@
 -- Line by line: those passed hold, and the first that does not decides.
-use Rattle.words.specs.Prelude.{refl, ap, ◌∙◌, lt-leb, le-leb, rules}
+use Rattle.words.specs.Prelude.{refl, ap, ◌∙◌, lt-leb, le-leb}
 use Rattle.floats.specs.{Floats.finite}
 use Rattle.refusals.specs.{Settings.sizing_lines}
 use Rattle.refusals.specs.Laws.Descent.{so, not_so, Below, top, past, stop, all_hold}
 use Rattle.refusals.proofs.setting.judge_sizing.Goals as goal
 
-pub sizing_known-requires : goal.sizing_known-requires
-unfolding sizing_lines
-sizing_known-requires c = search rules
-
 pub returns-then-not-sizing_known : goal.returns-then-not-sizing_known
 unfolding sizing_lines
 returns-then-not-sizing_known c = stop top refl (not_so c.sizing_known.ensures c.if-not-sizing_known.true-raw)
-
-pub sizing_value-requires : goal.sizing_value-requires
-unfolding sizing_lines
-sizing_value-requires c = search rules
-
-pub is_finite-requires : goal.is_finite-requires
-unfolding sizing_lines
-is_finite-requires c = search rules
 
 pub returns-then-not-is_finite : goal.returns-then-not-is_finite
 unfolding sizing_lines
@@ -27,10 +15,6 @@ returns-then-not-is_finite c =
     let past1 : (Below (sizing_lines c.args.sizing)) = past top refl (so c.sizing_known.ensures c.if-not-sizing_known.false-raw) in
     stop past1 refl
     (not_so (c.is_finite.ensures ∙ ap finite c.sizing_value.ensures) c.if-not-is_finite.true-raw)
-
-pub lookback_of-requires : goal.lookback_of-requires
-unfolding sizing_lines
-lookback_of-requires c = search rules
 
 pub returns-then-lookback_of-gt-MOST_REACH : goal.returns-then-lookback_of-gt-MOST_REACH
 unfolding sizing_lines

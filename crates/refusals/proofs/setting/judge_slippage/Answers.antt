@@ -1,25 +1,13 @@
 -- Line by line: those passed hold, and the first that does not decides.
-use Rattle.words.specs.Prelude.{refl, ap, ◌∙◌, rules}
+use Rattle.words.specs.Prelude.{refl, ap, ◌∙◌}
 use Rattle.floats.specs.{Floats.finite}
 use Rattle.refusals.specs.{Settings.slippage_lines}
 use Rattle.refusals.specs.Laws.Descent.{so, not_so, Below, top, past, stop, all_hold}
 use Rattle.refusals.proofs.setting.judge_slippage.Goals as goal
 
-pub slippage_known-requires : goal.slippage_known-requires
-unfolding slippage_lines
-slippage_known-requires c = search rules
-
 pub returns-then-not-slippage_known : goal.returns-then-not-slippage_known
 unfolding slippage_lines
 returns-then-not-slippage_known c = stop top refl (not_so c.slippage_known.ensures c.if-not-slippage_known.true-raw)
-
-pub slippage_value-requires : goal.slippage_value-requires
-unfolding slippage_lines
-slippage_value-requires c = search rules
-
-pub is_finite-requires : goal.is_finite-requires
-unfolding slippage_lines
-is_finite-requires c = search rules
 
 pub returns-then-not-is_finite : goal.returns-then-not-is_finite
 unfolding slippage_lines

@@ -5,29 +5,17 @@ use Rattle.refusals.specs.{Settings.term_lines}
 use Rattle.refusals.specs.Laws.Descent.{so, not_so, Below, top, past, stop, all_hold, past_block, stop_block}
 use Rattle.refusals.proofs.setting.judge_terms.Goals as goal
 
-pub judge_sizing-requires : goal.judge_sizing-requires
-unfolding term_lines
-judge_sizing-requires c = search rules
-
 pub returns-in_err-judge_sizing : goal.returns-in_err-judge_sizing
 unfolding term_lines
 returns-in_err-judge_sizing c =
     let given : c.from_residual.result ≡ Err c.in_err-judge_sizing.field-0.0 = search rules in
     given ∙ stop_block top _ _ c.judge_sizing.ensures refl c.in_err-judge_sizing.was
 
-pub is_finite-requires : goal.is_finite-requires
-unfolding term_lines
-is_finite-requires c = search rules
-
 pub returns-then-not-is_finite : goal.returns-then-not-is_finite
 unfolding term_lines
 returns-then-not-is_finite c =
     let past1 : (Below (term_lines c.args.t)) = past_block top _ _ c.judge_sizing.ensures refl c.in_ok-judge_sizing.was in
     stop past1 refl (not_so c.is_finite.ensures c.if-not-is_finite.true-raw)
-
-pub judge_slippage-requires : goal.judge_slippage-requires
-unfolding term_lines
-judge_slippage-requires c = search rules
 
 pub returns-in_err-judge_slippage : goal.returns-in_err-judge_slippage
 unfolding term_lines
@@ -37,10 +25,6 @@ returns-in_err-judge_slippage c =
     let given : c.from_residual-in_err-judge_slippage.result ≡ Err c.in_err-judge_slippage.field-0.0 = search rules in
     given ∙ stop_block past2 _ _ c.judge_slippage.ensures refl c.in_err-judge_slippage.was
 
-pub judge_risk-requires : goal.judge_risk-requires
-unfolding term_lines
-judge_risk-requires c = search rules
-
 pub returns-in_err-judge_risk : goal.returns-in_err-judge_risk
 unfolding term_lines
 returns-in_err-judge_risk c =
@@ -49,10 +33,6 @@ returns-in_err-judge_risk c =
     past_block past2 _ _ c.judge_slippage.ensures refl c.in_ok-judge_slippage.was in
     let given : c.from_residual-in_err-judge_risk.result ≡ Err c.in_err-judge_risk.field-0.0 = search rules in
     given ∙ stop_block past3 _ _ c.judge_risk.ensures refl c.in_err-judge_risk.was
-
-pub is_finite-requires-2 : goal.is_finite-requires-2
-unfolding term_lines
-is_finite-requires-2 c = search rules
 
 pub returns-then-not-is_finite-2 : goal.returns-then-not-is_finite-2
 unfolding term_lines
