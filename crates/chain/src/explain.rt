@@ -60,21 +60,16 @@ pub fn explain(
     ensures lines_after { lines.new ≡ lines_after_answer result (explanation t.now tree rows.now s) lines.old }
 {
     let checked = table::check(t);
-    let answer = checked.answer;
-    match answer {
-        Err(refusal) => Err(refusal),
-        Ok(_) => {
-            if lines.len() < LINE_WORDS * MOST_LINES {
-                return Err(Refusal::Room(LINES_ROOM));
-            }
-            let slots = table::header::slots(t) as usize;
-            if rows::are_whole(rows, slots) {
-                if state_right(s) {
-                    let ends = checked.ends;
-                    return Ok(explain_tree(t, &ends, tree, rows, s, lines));
-                }
-            }
-            Err(Refusal::Records)
+    checked.answer?;
+    if lines.len() < LINE_WORDS * MOST_LINES {
+        return Err(Refusal::Room(LINES_ROOM));
+    }
+    let slots = table::header::slots(t) as usize;
+    if rows::are_whole(rows, slots) {
+        if state_right(s) {
+            let ends = checked.ends;
+            return Ok(explain_tree(t, &ends, tree, rows, s, lines));
         }
     }
+    Err(Refusal::Records)
 }

@@ -45,20 +45,10 @@ pub fn explain_over(
         (asked_rows positions.now) counts.old) counts.old) }
 {
     let checked = table::check(t);
-    let answer = checked.answer;
-    match answer {
-        Err(refusal) => Err(refusal),
-        Ok(_) => {
-            let slots = table::header::slots(t) as usize;
-            let verdict = judge_over(slots, rows, positions, lines.len(), counts.len());
-            match verdict {
-                Err(refusal) => Err(refusal),
-                Ok(()) => {
-                    let ends = checked.ends;
-                    explain_rows(t, &ends, tree, rows, positions, lines, counts);
-                    Ok(())
-                }
-            }
-        }
-    }
+    checked.answer?;
+    let slots = table::header::slots(t) as usize;
+    judge_over(slots, rows, positions, lines.len(), counts.len())?;
+    let ends = checked.ends;
+    explain_rows(t, &ends, tree, rows, positions, lines, counts);
+    Ok(())
 }

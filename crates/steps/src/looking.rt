@@ -204,10 +204,10 @@ fn has_word(rows: &[u64], slots: usize, base: usize, slot: bool, which: u8) -> b
     true
 }
 
-// How many rows are left, and the word of the best up to them.
+// How many rows were passed, and the word of the best up to them.
 #[derive(Clone, Copy)]
 struct Quick {
-    left: usize,
+    passed: usize,
     best: u64,
 }
 
@@ -224,34 +224,35 @@ fn quick_rows(
     start: u64,
 ) -> Quick
     requires { (base + count * (7 + slots) ≤ length rows.now) × InRow slots slot which × (start < 0x7ff0_0000_0000_0000) }
-    ensures { (result.left ≤ count) × (Some (float_of result.best)
-        ≡ best_after kind (over_of slot which) rows.now slots base (Some (float_of start)) (count - result.left)) }
+    ensures { (result.passed ≤ count) × (Some (float_of result.best)
+        ≡ best_after kind (over_of slot which) rows.now slots base (Some (float_of start)) result.passed) }
 {
     let place = place_of(slot, which);
     let mut best = start;
     let mut at = base;
-    let mut left = count;
-    while 0 < left {
+    for passed in 0..count {
         if !has_word(rows, slots, at, slot, which) {
-            return Quick { left, best };
+            return Quick { passed, best };
         }
         let word = rows[at + place];
         if kind == kinds::HIGHEST {
             if best < word {
                 if INFINITY <= word {
-                    return Quick { left, best };
+                    return Quick { passed, best };
                 }
                 best = word;
             }
         } else if word < best {
             best = word;
         } else if INFINITY <= word {
-            return Quick { left, best };
+            return Quick { passed, best };
         }
         at += words::limits::ROW_FIXED + slots;
-        left -= 1;
     }
-    Quick { left, best }
+    Quick {
+        passed: count,
+        best,
+    }
 }
 
 // The row reached, and the best up to it.
@@ -287,7 +288,7 @@ fn quick_from(
             let count = (held - row).min(newest - at);
             let quick = quick_rows(kind, rows, slots, base, count, slot, which, word);
             return Looked {
-                at: at + (count - quick.left),
+                at: at + quick.passed,
                 best: floats::float_of(quick.best),
             };
         }
@@ -314,6 +315,7 @@ fn best_over(
 {
     let mut best = start;
     let mut at = oldest;
+    // A `while`, since a turn goes on by as many rows as it passed.
     while at < last {
         let quick = quick_from(kind, rows, slots, held, first, slot, which, best, at, last);
         if at < quick.at {
@@ -354,15 +356,10 @@ fn extreme_over(
     requires { (held ≡ (history_of slots rows.now).rows) × (first ≤ held) × (oldest ≤ newest) × (newest < held) }
     ensures { result ≡ extreme_over (ring_of slots first rows.now) kind (over_of slot which) oldest (newest - oldest) }
 {
-    let start = series_at(rows, slots, held, first, slot, which, oldest);
-    match start {
-        None => None,
-        Some(x) => {
-            best_over(
-                kind, rows, slots, held, first, slot, which, x, oldest, newest,
-            )
-        }
-    }
+    let start = series_at(rows, slots, held, first, slot, which, oldest)?;
+    best_over(
+        kind, rows, slots, held, first, slot, which, start, oldest, newest,
+    )
 }
 
 // Highest or Lowest over n rows, the newest of them `back` rows before the newest of all.

@@ -117,6 +117,7 @@ fn run_with(
     let mut answer = told;
     let mut visits: usize = seen;
     let mut p: usize = from;
+    // A `while`, since a jump goes on from where it leads.
     while p < n {
         let x = decode::step_at(list, p);
         let kind = x.kind;

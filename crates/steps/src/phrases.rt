@@ -250,6 +250,7 @@ pub(crate) fn run_tests(
     let mut answer = false;
     let mut visits: usize = 0;
     let mut p: usize = 0;
+    // A `while`, since a turn goes on by as many steps as it passed, or to where a jump leads.
     while p < n {
         let on = past_newest(list, n, p, rows, slots, held, first, newest, answer, visits);
         p = on.p;

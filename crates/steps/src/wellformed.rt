@@ -154,6 +154,7 @@ pub fn check(list: &[u8], slots: u64, depth: u64) -> Result<(), usize>
         return Err(0);
     }
     let mut p = 0;
+    // A `while`, since a turn goes on by as many steps as it found good.
     while p < n {
         let good = good_from(list, n, p, slots, depth);
         if good == 0 {

@@ -182,20 +182,15 @@ pub fn translate(t: &[u8], tree: Tree, room: &mut [u8]) -> Result<usize, Refusal
     ensures room_after { room.new ≡ room_left t.now tree room.old }
 {
     let checked = table::check(t);
-    let answer = checked.answer;
-    match answer {
-        Err(refusal) => Err(refusal),
-        Ok(_) => {
-            let x = tree_number(tree);
-            let count = header::count(t, x);
-            if room.len() < NODE_ROOM * count {
-                return Err(Refusal::Room(FIRST_ROOM + x as u64));
-            }
-            if count == 0 {
-                return Ok(0);
-            }
-            let ends = checked.ends;
-            Ok(emit_condition(t, &ends, header::root(t, x), 32, room, 0))
-        }
+    checked.answer?;
+    let x = tree_number(tree);
+    let count = header::count(t, x);
+    if room.len() < NODE_ROOM * count {
+        return Err(Refusal::Room(FIRST_ROOM + x as u64));
     }
+    if count == 0 {
+        return Ok(0);
+    }
+    let ends = checked.ends;
+    Ok(emit_condition(t, &ends, header::root(t, x), 32, room, 0))
 }
