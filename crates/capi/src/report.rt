@@ -4,7 +4,7 @@ ghost use Rattle.capi.specs.Totals.{totals_call, join_call};
 
 use replies::answer_word;
 
-// Adds a list of trades to totals.
+// Adds a list of trades to totals. This and the next are two, since C has a name for each.
 #[unsafe(no_mangle)]
 pub extern "C" fn ysh_totals(totals: &mut [u64], trades: &[u64]) -> u64
     ensures { totals_call totals.old trades.now ≡ record { answer = result; lent = totals.new } }

@@ -1,6 +1,7 @@
 // The lines of an explanation, as words.
 
 // The sorts of a line: what it shows.
+// Numbers, no enum: the sort is a word of a line's record, which the C interface lays down.
 pub const LINK: u64 = 0;
 
 pub const VALUES: u64 = 1;

@@ -2,6 +2,7 @@
 use std::io;
 use std::io::Write;
 
+// The program why has this line too: the two stand on no crate in common for it, and one for a line would be no plainer.
 pub(crate) fn say(output: &mut impl Write, text: &str) -> io::Result<()> {
     output.write_all(text.as_bytes())
 }

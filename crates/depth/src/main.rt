@@ -16,13 +16,6 @@ const HEADER: u64 = 256;
 
 const LARGEST_WINDOW: u64 = 4096 * 8 * 71;
 
-// The lookback that an argument names.
-#[derive(Drop)]
-enum Lookback {
-    Bars(u64),
-    NoNumber,
-}
-
 // What a decimal digit stands for.
 fn digit(byte: u8) -> Option<u8> {
     match byte {
@@ -40,15 +33,13 @@ fn with_digit(n: u64, digit: u8) -> u64 {
     }
 }
 
-fn lookback_of(argument: &[u8]) -> Lookback {
+// The lookback that an argument names; nothing where a byte of it is no digit.
+fn lookback_of(argument: &[u8]) -> Option<u64> {
     let mut n = 0u64;
     for byte in argument {
-        let Some(d) = digit(*byte) else {
-            return Lookback::NoNumber;
-        };
-        n = with_digit(n, d);
+        n = with_digit(n, digit(*byte)?);
     }
-    Lookback::Bars(n)
+    Some(n)
 }
 
 fn tell(rt: &impl Print, what: &str, n: u64) -> io::Result<()> {
@@ -82,7 +73,7 @@ fn main(rt: HostRuntime) -> io::Result<()> {
     let k = rt.arg(1, &mut argument).unwrap_or(0);
     let input = answers::read_table(rt.alloc(), rt.reader())?;
     match lookback_of(&argument[..k]) {
-        Lookback::Bars(lookback) => tell_depth(&rt, &input, lookback),
-        Lookback::NoNumber => rt.println("usage: depth [LOOKBACK] < TABLE"),
+        Some(lookback) => tell_depth(&rt, &input, lookback),
+        None => rt.println("usage: depth [LOOKBACK] < TABLE"),
     }
 }

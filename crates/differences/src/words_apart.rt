@@ -1,4 +1,5 @@
-// Words of two lists of trades that differ: how many, and a line for each.
+// Words of two lists of trades that differ: how many, and a line for each. The room of lines and how many are written stay two parameters: in a
+// struct with a `&mut` slice each contract would have to say that the room is still the same one.
 ghost use Rattle.std.specs.Prelude.{◌≡◌, ◌+◌, ◌*◌, ◌<◌, ◌≤◌, length};
 ghost use Rattle.words.specs.Limits.{trade_words};
 ghost use Rattle.words.specs.Words.{overwrite};

@@ -49,7 +49,8 @@ fn copy_bytes(part: &mut [u8], to: usize, list: &[u64], p: usize, n: usize)
     }
 }
 
-// The same, as many as can be by words: one by one up to the next whole word of the list, which a page seldom has before it.
+// The same, as many as can be by words: one by one up to the next whole word of the list, which a page seldom has before it. The library's
+// `copy_from_slice` takes bytes from bytes, and these are in words.
 fn copy(part: &mut [u8], to: usize, list: &[u64], p: usize, n: usize)
     requires { (to + n ≤ length part.old) × (p + n < 4294967296) }
     ensures { part.new ≡ laid part.old to (drop p (words_bytes list.now)) 0 n }

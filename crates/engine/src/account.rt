@@ -30,6 +30,7 @@ pub struct Filled {
 }
 
 // What is due at a bar for the working order: it only waits, a position is entered at a raw price, or it is left.
+// No Option or Result: there are three cases, and each is a plain one.
 #[derive(Clone, Copy)]
 pub enum Due {
     Waits(Order),

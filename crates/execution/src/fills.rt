@@ -13,6 +13,7 @@ use portfolio::{Candle, Closed, Portfolio};
 
 // An entry order's answer: the portfolio with the position, and the fill price. A quantity that is too large enters nothing, and the
 // step that meets one is refused.
+// No Option or Result: there are three cases, and none entered is no refusal.
 #[derive(Clone, Copy)]
 pub enum Entry {
     NoEntry,

@@ -3,6 +3,7 @@ ghost use Rattle.std.specs.Prelude.{◌≡◌};
 ghost use Rattle.execution.specs.Lots.{in_lots, size_in_lots, is_too_large, or_zero};
 
 // How much to order: nothing, more lots than can be counted, or so much.
+// No Option or Result: there are three cases, and nothing to order is no refusal.
 #[derive(Clone, Copy)]
 pub enum Quantity {
     Nothing,

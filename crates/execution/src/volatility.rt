@@ -9,7 +9,8 @@ ghost use Rattle.execution.specs.Tally.{term_of, tally_from};
 
 use rows::ring;
 
-// What a pass adds up: the returns, or how far each is from a mean, squared.
+// What a pass adds up: the returns, or how far each is from a mean, squared. No closure: a case of it can be named in a contract, and the
+// loop over the returns stands once.
 #[derive(Clone, Copy)]
 enum Term {
     Itself,

@@ -61,6 +61,7 @@ pub(crate) fn trigger_of(case: &[u64]) -> Option<Trigger> {
     intrabar::intrabar_exit(candle, risk, entry, extreme, cases::flag(case, 0, 20))
 }
 
+// No twin of `exited_of`: this reads another case and enters, that one leaves.
 pub(crate) fn entered_of(case: &[u64]) -> Portfolio {
     let pf = cases::portfolio(case, 1);
     let qty = cases::float(case, 0, 7);

@@ -53,6 +53,7 @@ pub struct Closed {
 }
 
 // Why a position was closed.
+// Numbers, no enum: the reason is a word of a trade's record, which the C interface lays down.
 pub const SIGNAL: u64 = 1;
 
 pub const STOP_LOSS: u64 = 2;

@@ -1,4 +1,5 @@
-// The settings, and what their words mean.
+// The settings, and what their words mean. The words are a slice, here and for a state, with its least length in a clause: C lends slices, which
+// may be longer, and to hand on an array's reference each call would have to cut one.
 ghost use Rattle.std.specs.Prelude.{◌≡◌, ◌≤◌, length};
 ghost use Rattle.words.specs.Limits.{setting_words};
 ghost use Rattle.records.specs.Settings.{flag_of, level_of, sizing_of, slippage_of, risk_of, terms_of, order_type_of, entries_of, settings_of};

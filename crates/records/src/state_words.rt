@@ -120,6 +120,7 @@ pub fn state_of(words: &[u64]) -> State
     whole_state(words)
 }
 
+// No twin of `order_delay`: this tells the case, that what the case holds.
 fn order_kind(order: Order) -> u64
     ensures { result ≡ order_kind order }
 {

@@ -26,10 +26,11 @@ pub fn answer_word(refusal: Refusal) -> u64
 }
 
 // Yes is 1, no is 0.
+#[tactic(auto, unfolding(crate::specs::Call::bit_of))]
 pub fn bit_of(b: bool) -> u64
     ensures { result ≡ bit_of b }
 {
-    if b { 1 } else { 0 }
+    u64::from(b)
 }
 
 // 10: settings and state have their words.

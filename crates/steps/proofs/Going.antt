@@ -1,6 +1,6 @@
 -- A run taken one step further, with the values in two lists: the four places below them are always missing.
 use Rattle.std.specs.Prelude.{None, Option, Some}
-use Rattle.words.specs.Prelude.{ℕ, zero, suc, ◌+◌, ◌-◌, ◌≤◌, ◌<◌, min, ◌≡◌, refl, sym, ap, ◌∙◌, Bool, true, false, true≢false, List, [], ◌∷◌, arith, sub-zero}
+use Rattle.words.specs.Prelude.{ℕ, zero, suc, ◌+◌, ◌-◌, ◌≤◌, ◌<◌, min, ◌≡◌, refl, sym, ap, ◌∙◌, Bool, true, false, List, [], ◌∷◌, arith, sub-zero}
 use Rattle.words.specs.Prelude.{add-one, Float, nan, length, drop, set, length-set, length-replicate, get_or-set_same, get_or-set_other}
 use Rattle.rows.specs.{History.History}
 use Rattle.rules.specs.{declared.position.PositionState.PositionState}
@@ -10,6 +10,7 @@ use Rattle.steps.specs.{Places.Tries}
 use Rattle.steps.proofs.{Coming.came_on}
 use native.Mathlib.Nat.{ne_of_lt}
 use lib.ListN.{get_or-replicate}
+use Rattle.std.proofs.lemmas.Option.{none-some, same_Some}
 
 -- ---- the values
 
@@ -191,14 +192,14 @@ going_start h s bs n most ns ts y visits p f came =
 
 -- ---- a run with so many places for values
 
--- with a place for each step it is the run
-pub tried_whole : (ran : Ran) (n most : ℕ) (full : Bool) (r : Ran) → n ≤ most → Tries ran n most full r → r ≡ ran
+-- with a place for each step there is a run
+pub tried_whole : (ran : Ran) (n most : ℕ) (r : Option Ran) → n ≤ most → Tries ran n most r → r ≡ Some ran
 unfolding Tries
-tried_whole ran n most true r le t = absurd (omega arith)
-tried_whole ran n most false r le t = t
+tried_whole ran n most None le t = absurd (omega arith)
+tried_whole ran n most (Some r) le t = ap (λ (x : Ran). Some x) t
 
--- and so it is where no value was short of one
-pub tried_through : (ran : Ran) (n most : ℕ) (full : Bool) (r : Ran) → full ≡ false → Tries ran n most full r → r ≡ ran
+-- and what there is is the run
+pub tried_through : (ran : Ran) (n most : ℕ) (q : Option Ran) (r : Ran) → q ≡ Some r → Tries ran n most q → r ≡ ran
 unfolding Tries
-tried_through ran n most true r e t = absurd (true≢false e)
-tried_through ran n most false r e t = t
+tried_through ran n most None r e t = absurd (none-some _ e)
+tried_through ran n most (Some x) r e t = sym (same_Some _ _ e) ∙ t

@@ -33,10 +33,10 @@ pub record Fresh (places : ℕ) (numbers : List Float) (there : List Bool) : Typ
   pub long : length numbers ≡ places + 4
   pub none : there ≡ replicate (places + 4) false
 
--- What it comes to, where it is told whether a value found no place: if one did, there are more steps than places; if not, it is the run.
-unfoldable pub Tries : Ran → ℕ → ℕ → Bool → Ran → Type 0
-Tries ran steps places true r = places < steps
-Tries ran steps places false r = r ≡ ran
+-- What it comes to: nothing where a value found no place, and then there are more steps than places; if each found one, it is the run.
+unfoldable pub Tries : Ran → ℕ → ℕ → Option Ran → Type 0
+Tries ran steps places None = places < steps
+Tries ran steps places (Some r) = r ≡ ran
 
 -- ---- a run that is on its way
 

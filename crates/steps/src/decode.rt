@@ -52,19 +52,12 @@ pub(crate) fn is_test(step: u64) -> bool
     (FIRST_TEST as u64..kinds::RISING as u64).contains(&step)
 }
 
-// A byte as a number of 64 bits.
-fn wide(b: u8) -> u64
-    ensures { (result ≡ b) × (result < 256) }
-{
-    b as u64
-}
-
 // Little-endian numbers of 16, 32 and 64 bits, with no test of their own: a run decodes every step that it visits.
 fn two_at(list: &[u8], at: usize) -> u64
     requires { at + 2 ≤ length list.now }
     ensures { (result ≡ u16 list.now at) × (result < 65536) }
 {
-    wide(list[at]) + 256 * wide(list[at + 1])
+    u64::from(list[at]) + 256 * u64::from(list[at + 1])
 }
 
 fn four_at(list: &[u8], at: usize) -> u64

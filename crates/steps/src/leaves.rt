@@ -14,7 +14,8 @@ use rules::position::PositionState;
 use rules::values;
 use table::kinds;
 
-// A leaf that is told at once, and its value; or a step that is not told.
+// A leaf that is told at once, and its value; or a step that is not told. An Option would be an Option in an Option: a leaf that is told may
+// well be missing.
 #[derive(Clone, Copy)]
 pub(crate) struct AtOnce {
     pub told: bool,

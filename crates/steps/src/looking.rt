@@ -28,7 +28,8 @@ fn series_in(rows: &[u64], slots: usize, base: usize, slot: bool, which: u8) -> 
     Some(leaves::price_in(rows, base, which))
 }
 
-// How many rows were passed over, and what the row after them has, if it is what stopped it.
+// How many rows were passed over, and what the row after them has, if it is what stopped it. An Option would be an Option in an Option: a
+// missing value stops it too.
 #[derive(Clone, Copy)]
 struct Stop {
     passed: usize,

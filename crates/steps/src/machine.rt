@@ -31,13 +31,6 @@ const SOME: usize = 68;
 
 const ALL: usize = 1028;
 
-// How far a run with so many places for values came, and whether it stopped because a value found no place.
-#[derive(Clone, Copy)]
-struct Tried {
-    full: bool,
-    ran: Ran,
-}
-
 // The value that a step of Highest or Lowest gives.
 fn look(x: Step, rows: &[u64], slots: usize, held: usize, first: usize) -> Option<f64>
     requires held_value { (held ≡ (history_of slots rows.now).rows) × (first ≤ held) }
@@ -95,17 +88,7 @@ fn steps_run(list: &[u8]) -> usize
     (list.len() / 16).min(MOST_STEPS)
 }
 
-// A run that stopped because a value found no place.
-fn out_of_places(answer: bool, visits: usize) -> Tried
-    ensures { result.full ≡ true }
-{
-    Tried {
-        full: true,
-        ran: Ran { answer, visits },
-    }
-}
-
-// The run of the first n steps with so many places for values. Below these lie four that are always missing: no step takes more. The
+// The run of the first n steps with so many places for values; nothing where a value finds no place. Below these lie four that are always missing: no step takes more. The
 // kinds are asked for in the order of how often they stand in a list; a jump is an `if`, not a sum, so that the next step need not
 // wait for the answer.
 fn run_with(
@@ -121,12 +104,12 @@ fn run_with(
     from: usize,
     told: bool,
     seen: usize,
-) -> Tried
+) -> Option<Ran>
     requires n_bound { n ≤ steps_in list.now }
     requires le_places { (1 ≤ places) × (places ≤ 1024) × (first ≤ (history_of slots rows.now).rows) × (n ≤ 1024)
         × Came (ring_of slots first rows.now) s list.now n [] told seen from }
     requires fresh { Fresh places numbers.old there.old }
-    ensures { Tries (ran_over (ring_of slots first rows.now) s (ops_from list.now 0 n)) n places result.full result.ran }
+    ensures { Tries (ran_over (ring_of slots first rows.now) s (ops_from list.now 0 n)) n places result }
 {
     let held = rows::row_count(rows, slots);
     let newest = leaves::newest_row(rows, slots, held, first);
@@ -141,10 +124,7 @@ fn run_with(
         visits += 1;
         if doing::is_among(kind, kinds::CONST, kinds::PREV) {
             if top == places {
-                return Tried {
-                    full: true,
-                    ran: Ran { answer, visits },
-                };
+                return None;
             }
             stack::put(
                 numbers,
@@ -181,7 +161,7 @@ fn run_with(
             p += 1;
         } else if doing::is_among(kind, kinds::HIGHEST, decode::PAST_LOOKS) {
             if top == places {
-                return out_of_places(answer, visits);
+                return None;
             }
             visits += x.skip.saturating_sub(1) as usize;
             let value = look(x, rows, slots, held, first);
@@ -193,10 +173,7 @@ fn run_with(
             p += 1;
         }
     }
-    Tried {
-        full: false,
-        ran: Ran { answer, visits },
-    }
+    Some(Ran { answer, visits })
 }
 
 // The run from a place on of n steps, at most 1,024, with room for so many values.
@@ -210,12 +187,12 @@ fn run_in<const ROOM: usize>(
     from: usize,
     told: bool,
     seen: usize,
-) -> Tried
+) -> Option<Ran>
     requires room { (5 ≤ ROOM) × (ROOM ≤ 1028) }
     requires n_bound { n ≤ steps_in list.now }
     requires n_bound_2 { (n ≤ 1024) × (first ≤ (history_of slots rows.now).rows)
         × Came (ring_of slots first rows.now) s list.now n [] told seen from }
-    ensures { Tries (ran_over (ring_of slots first rows.now) s (ops_from list.now 0 n)) n (ROOM - 4) result.full result.ran }
+    ensures { Tries (ran_over (ring_of slots first rows.now) s (ops_from list.now 0 n)) n (ROOM - 4) result }
 {
     let mut numbers = [0.0; ROOM];
     let mut there = [false; ROOM];
@@ -252,16 +229,13 @@ fn run_rest(
         × Came (ring_of slots first rows.now) s list.now n [] told seen from }
     ensures { result ≡ ran_over (ring_of slots first rows.now) s (ops_from list.now 0 n) }
 {
-    let few = run_in::<FEW>(list, n, rows, slots, first, s, from, told, seen);
-    if !few.full {
-        return few.ran;
+    if let Some(few) = run_in::<FEW>(list, n, rows, slots, first, s, from, told, seen) {
+        return few;
     }
-    let some = run_in::<SOME>(list, n, rows, slots, first, s, from, told, seen);
-    if !some.full {
-        return some.ran;
+    if let Some(some) = run_in::<SOME>(list, n, rows, slots, first, s, from, told, seen) {
+        return some;
     }
-    let all = run_in::<ALL>(list, n, rows, slots, first, s, from, told, seen);
-    all.ran
+    run_in::<ALL>(list, n, rows, slots, first, s, from, told, seen).unwrap()
 }
 
 // Runs a list over rows of so many slots each, the oldest of them row `first`. Bytes at the end that are no whole step are not

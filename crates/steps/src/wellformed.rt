@@ -52,7 +52,8 @@ fn looks_within(slots: u64, depth: u64, over: Series, n: u64, back: u64) -> bool
     false
 }
 
-// Whether the step is of a known kind and the fields that its kind does not use are zero.
+// Whether the step is of a known kind and the fields that its kind does not use are zero. Two functions go over the operations, this and
+// `bounded`, since they are two rules, each with a definition of its own.
 #[tactic(auto, unfolding(crate::specs::WellFormed::unused_fields_zero))]
 fn unused_fields_zero(x: Step, op: Op) -> bool
     ensures { result ≡ unused_fields_zero x op }

@@ -4,6 +4,7 @@ ghost use Rattle.std.specs.Prelude.{◌≡◌};
 ghost use Rattle.table.specs.Kinds.{kind_of, row_named, since_of, is_series, takes_series};
 
 // The kinds, by number.
+// No enum: document 01 has a number for the operation, and the definitions `combine` and `tested` and the laws on kinds are over that number.
 pub const CONST: u8 = 1;
 
 pub const REF: u8 = 2;
@@ -147,6 +148,7 @@ pub struct Kind {
 }
 
 // Sorts.
+// No enum: the definitions `sorts`, `Sorted` and `child_fits_at` and the laws of the crate roundtrip are over the number.
 pub const OPERAND: u8 = 1;
 
 pub const CONDITION: u8 = 2;

@@ -6,10 +6,7 @@ ghost use Rattle.table.specs.Order.{or_place, first_place};
 fn or_place(p: Option<usize>, q: Option<usize>) -> Option<usize>
     ensures { result ≡ or_place p q }
 {
-    match p {
-        Some(x) => Some(x),
-        None => q,
-    }
+    p.or(q)
 }
 
 // The first place of four, one for each tree. The rules that ask it find their four in a line each; a function that takes the rule as a

@@ -32,15 +32,11 @@ fn digit(byte: u8) -> u8 {
     }
 }
 
-fn wide(byte: u8) -> u64 {
-    byte as u64
-}
-
 // The word that digits spell; of more than 16 the last 16 count.
 fn word_of(digits: &[u8]) -> u64 {
     let mut word = 0u64;
     for byte in digits {
-        word = word % 0x1000_0000_0000_0000 * 16 + wide(digit(*byte)) % 16;
+        word = word % 0x1000_0000_0000_0000 * 16 + u64::from(digit(*byte)) % 16;
     }
     word
 }

@@ -67,7 +67,7 @@ fn is_acceptable(pnl: u64, reason: u64) -> bool
 fn bit_of(b: bool) -> u64
     ensures { result ≡ bit_of b }
 {
-    if b { 1 } else { 0 }
+    u64::from(b)
 }
 
 // Counts one trade.

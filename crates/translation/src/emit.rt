@@ -24,7 +24,7 @@ fn put_four(room: &mut [u8], p: usize, a: u8, b: u8, c: u8, d: u8)
 fn low(n: u64) -> u8
     ensures { result ≡ n % 256 }
 {
-    (n % 256) as u8
+    n.to_le_bytes()[0]
 }
 
 // A number of 32 bits, the first byte at p.

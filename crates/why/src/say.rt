@@ -5,6 +5,7 @@ use std::io::Write;
 // A value is shown with six places after the point.
 const PLACES: f64 = 1000000.0;
 
+// The program demo has this line too: the two stand on no crate in common for it, and one for a line would be no plainer.
 pub(crate) fn say(output: &mut impl Write, text: &str) -> io::Result<()> {
     output.write_all(text.as_bytes())
 }

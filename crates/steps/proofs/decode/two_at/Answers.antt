@@ -5,4 +5,4 @@ use Rattle.steps.proofs.decode.two_at.Goals as goal
 
 pub returns : goal.returns
 unfolding u16
-returns c = (simp (c.wide-2.ensures.0, c.wide.ensures.0), omega (arith, c.wide-2.ensures.1, c.wide.ensures.1))
+returns c = (simp (c.from-2.ensures, c.from.ensures), omega (arith, c.from-2.ensures, c.from.ensures))

@@ -194,12 +194,12 @@ shape_of-there-then-top-places-2 c = omega (arith, c.loop-p.invariant.room.there
 pub returns-then-top-places-2 : goal.returns-then-top-places-2
 unfolding Tries
 returns-then-top-places-2 c =
-    rw c.out_of_places.ensures (omega (
+    omega (
       arith,
       c.loop-p.invariant.pushed,
       c.loop-p-test.true,
       c.if-top-places-2.true,
-    ))
+    )
 
 -- at most 65,536 visits for each step
 pub overflow_add-visits-then-is_among-3 : goal.overflow_add-visits-then-is_among-3

@@ -1,14 +1,14 @@
--- `or_place` meets its contract.
--- Assumes nothing.
-use Rattle.std.specs.Prelude.{Option, ℕ}
-use Rattle.words.specs.Prelude.{sym, ap, rules}
+-- The library's `or` of two options, by the cases of the first.
+use Rattle.std.specs.Prelude.{Option, ℕ, None, Some}
+use Rattle.std.specs.Option.{option_or}
+use Rattle.words.specs.Prelude.{◌≡◌, ◌∙◌, refl}
 use Rattle.table.specs.{Order.or_place}
 use Rattle.table.proofs.places.or_place.Goals as goal
 
-pub returns-in-Some : goal.returns-in-Some
+same : (p q : Option ℕ) → option_or p q ≡ or_place p q
 unfolding or_place
-returns-in-Some c = sym (ap (λ (p : Option ℕ). or_place p c.args.q) c.in-Some.is)
+same None q = refl
+same (Some p) q = refl
 
-pub returns-in-None : goal.returns-in-None
-unfolding or_place
-returns-in-None c = search rules
+pub returns : goal.returns
+returns c = c.or.ensures ∙ same c.args.p c.args.q
