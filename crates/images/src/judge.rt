@@ -3,7 +3,8 @@ ghost use Rattle.std.specs.Prelude.{◌≡◌, ◌+◌, ◌<◌, ◌≤◌, leng
 ghost use Rattle.words.specs.Limits.{most_slots, most_rows};
 ghost use Rattle.refusals.specs.Lines.{judged};
 ghost use Rattle.images.specs.Reading.{slots_in, rows_in, row_place};
-ghost use Rattle.images.specs.Refused.{used_or_zero, zero_at, each_fine, rows_fine, shape_fine, numbers_fine, unused_zero, image_lines, same_lines, restore_judged};
+ghost use Rattle.images.specs.Refused.{used_or_zero, zero_at, each_fine, rows_fine, shape_fine, numbers_fine, unused_zero};
+ghost use Rattle.images.specs.Refused.{image_lines, same_lines, restore_judged};
 
 use crate::body::row_fine;
 use crate::layout;

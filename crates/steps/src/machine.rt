@@ -88,9 +88,9 @@ fn steps_run(list: &[u8]) -> usize
     (list.len() / 16).min(MOST_STEPS)
 }
 
-// The run of the first n steps with so many places for values; nothing where a value finds no place. Below these lie four that are always missing: no step takes more. The
-// kinds are asked for in the order of how often they stand in a list; a jump is an `if`, not a sum, so that the next step need not
-// wait for the answer.
+// The run of the first n steps with so many places for values; nothing where a value finds no place. Below these lie four that are
+// always missing: no step takes more. The kinds are asked for in the order of how often they stand in a list; a jump is an `if`, not a
+// sum, so that the next step need not wait for the answer.
 fn run_with(
     list: &[u8],
     n: usize,
