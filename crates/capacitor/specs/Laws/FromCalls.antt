@@ -32,9 +32,9 @@ record Asked (a : Result Needs Refusal) (rows : ℕ) : Type 0 where
 depth_given : (a : Result Needs Refusal) (after : DepthLent) → depth_gives a ≡ gives after → Asked a after.rows
 unfolding depth_gives
 depth_given (Err why) after e = refuses_not e
-depth_given (Ok needs) after e =
-    let same : needs.rows ≡ after.rows = ap (λ (l : DepthLent). l.rows) (gives_same e) in
-    record { needs.row = needs.row; needs.window = needs.window; is = rw same }
+depth_given (Ok n) after e =
+    let same : n.rows ≡ after.rows = ap (λ (l : DepthLent). l.rows) (gives_same e) in
+    record { row = n.row; window = n.window; is = ap (λ (r : ℕ). needs r n.row n.window) same }
 
 -- so are steps
 record Wrote (w : Result ℕ Refusal) (left : List ℕ) (after : TranslateLent) : Type 0 where
