@@ -18,7 +18,6 @@ use Rattle.capi.specs.{AsIfAlone.Rode, AsIfAlone.AsAlone, AsIfAlone.slots, AsIfA
 use Rattle.capi.specs.{AsIfAlone.as_if_alone, Laws.TableCalls.OneToNine, Laws.TableCalls.one_to_nine}
 use Rattle.beside.specs.{Step.calls_other, Taken.AllFine, Taken.taken_fine}
 use Rattle.refusals.specs.{Lines.Verdict}
-use Rattle.table.specs.{Outcome.accepts}
 use Rattle.table.specs.{declared.answer.Accepted.Accepted}
 use Rattle.words.specs.{Outcome.number_of, Outcome.place_of}
 

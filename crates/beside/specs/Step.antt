@@ -13,8 +13,7 @@ use Rattle.stepping.specs.{Bars.StepLent, Bars.lent_lines, Bars.step_gives, Bars
 use Rattle.capi.specs.{Laws.Calls.Honest, Laws.RunCalls.step_honest}
 use Rattle.beside.specs.{OwnFine.own_fine, Taken.AllFine}
 use Rattle.refusals.specs.{Lines.Verdict}
-use Rattle.words.specs.declared.refusal.Refusal.TheVariants as Refusal
-use Rattle.words.specs.{Outcome.number_of, Outcome.place_of}
+use Rattle.words.specs.{Outcome.number_of}
 
 -- each line of number 11 holds
 unfoldable eleven_holds : List Line → Bool
