@@ -1,12 +1,8 @@
 -- The rows of an accepted table are one more than its greatest reach.
-use Rattle.words.specs.Prelude.{rules, arith, lt-ltb, le-ltb, sym, ◌∙◌}
+use Rattle.words.specs.Prelude.{arith, lt-ltb, le-ltb, sym, ◌∙◌}
 use Rattle.needed.specs.{Depth.depth_answer}
 use Rattle.needed.proofs.{Needed.few, Needed.needed, Needed.product}
 use Rattle.needed.proofs.depth.depth.Goals as goal
-
-pub check-checked-requires : goal.check-checked-requires
-unfolding depth_answer
-check-checked-requires c = search rules
 
 pub returns-then-lookback-gt-MOST_REACH : goal.returns-then-lookback-gt-MOST_REACH
 unfolding depth_answer
@@ -15,14 +11,6 @@ returns-then-lookback-gt-MOST_REACH c = rw (← c.check-checked.ensures.0, c.in-
 pub overflow_add-lookback : goal.overflow_add-lookback
 unfolding depth_answer
 overflow_add-lookback c = omega (arith, c.if-lookback-gt-MOST_REACH.false)
-
-pub max-needed-requires : goal.max-needed-requires
-unfolding depth_answer
-max-needed-requires c = search rules
-
-pub row_bytes-row-requires : goal.row_bytes-row-requires
-unfolding depth_answer
-row_bytes-row-requires c = search rules
 
 pub overflow_mul-result : goal.overflow_mul-result
 unfolding depth_answer

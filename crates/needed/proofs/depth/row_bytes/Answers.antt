@@ -1,11 +1,7 @@
 -- Eight bytes a word.
-use Rattle.words.specs.Prelude.{rules, arith}
+use Rattle.words.specs.Prelude.{arith}
 use Rattle.table.specs.{Depth.row_bytes}
 use Rattle.needed.proofs.depth.row_bytes.Goals as goal
-
-pub slots-requires : goal.slots-requires
-unfolding row_bytes
-slots-requires c = search rules
 
 pub returns : goal.returns
 unfolding row_bytes

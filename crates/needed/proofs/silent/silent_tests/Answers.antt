@@ -1,6 +1,6 @@
 -- The nodes that are listed are the silent tests of the table's trees, where it is accepted; else nothing is listed.
 use Rattle.std.specs.Prelude.{Err, Ok, Result, ℕ}
-use Rattle.words.specs.Prelude.{ℕ, ◌≡◌, refl, ◌∙◌, List, arith, length, rules}
+use Rattle.words.specs.Prelude.{ℕ, ◌≡◌, refl, ◌∙◌, List, arith, length}
 use Rattle.table.specs.{Bytes.Bytes, Checked.checked}
 use Rattle.table.specs.{Silent.silent_tests, Silent.silent_answer, Silent.list_after_answer, Silent.four_silent}
 use Rattle.needed.specs.{Laws.Silent.silent_found}
@@ -17,10 +17,6 @@ module _ (t : List ℕ) (small : Bytes t) (d : ℕ) (given : List ℕ) (answer :
   as_tests (Err why) bad =
       let so : answer ≡ Err why = is ∙ rw bad in
       (so ∙ rw bad, rw so (rw so at leaves))
-
-pub silent_nodes-requires : goal.silent_nodes-requires
-unfolding Bytes
-silent_nodes-requires c = search rules
 
 pub returns : goal.returns
 unfolding Bytes
