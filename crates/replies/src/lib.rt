@@ -25,7 +25,7 @@ pub fn answer_word(refusal: Refusal) -> u64
     refusal.number() % HALF * HALF + refusal.place() % HALF
 }
 
-// Yes is 1, no is 0.
+// Yes is 1, no is 0. One call of the library, with a name so that its contract says the definition `bit_of`.
 #[tactic(auto, unfolding(crate::specs::Call::bit_of))]
 pub fn bit_of(b: bool) -> u64
     ensures { result ≡ bit_of b }

@@ -1,6 +1,8 @@
 // How a node of the table is made up: its kind's data, and the nodes where its children begin. The class of its kind, in the
 // table of kinds, says which. The first child comes right after its node, each further one at the end of the one before. The
 // evaluator and the translator go by this.
+// A table and the ends of its subtrees travel as two parameters: in a struct of two references each contract would say `whole.t.now` and
+// `whole.ends.now`, or `whole.entry.t.now` of what is returned, and be longer.
 ghost use Rattle.std.specs.Prelude.{◌≡◌};
 ghost use Rattle.rules.specs.Shapes.{end_in, operand_of, condition_of, operand_shape, condition_shape};
 

@@ -1,5 +1,7 @@
 // Leaves: what a step gives that takes no value. Most are read from a row that is there and that has what they name: these are told at
 // once, with no test of where a word lies, and the newest row's place is told beforehand.
+// The rows, their slots, how many there are and where they begin travel as four parameters: in a struct that holds a reference each contract
+// would say `(ring_of window.entry.slots window.entry.first window.entry.rows.now)`, and be longer.
 ghost use Rattle.std.specs.Prelude.{◌≡◌, Bool, true, ◌+◌, ◌-◌, ◌*◌, ◌<◌, ◌≤◌, length, Some, Float, Option};
 ghost use Rattle.floats.specs.Floats.{float_of};
 ghost use Rattle.rows.specs.History.{History, history_of};
@@ -139,20 +141,11 @@ pub(crate) fn price_in(rows: &[u64], base: usize, selector: u8) -> f64
     requires { base + 7 ≤ length rows.now }
     ensures { result ≡ price_of (words_from rows.now base) selector }
 {
-    if selector < 5 {
-        return field_in(rows, base, selector as usize + 1);
-    }
-    let high = field_in(rows, base, words::places::BAR_HIGH);
-    let low = field_in(rows, base, words::places::BAR_LOW);
-    let close = field_in(rows, base, words::places::BAR_CLOSE);
-    if selector == 5 {
-        return (high + low + close) / 3.0;
-    }
-    let open = field_in(rows, base, words::places::BAR_OPEN);
-    (open + high + low + close) / 4.0
+    values::price_by(selector, |j| field_in(rows, base, j))
 }
 
-// A slot of that row, which has it.
+// A slot of that row, which has it. The test of one bit is all that it has in common with `values::slot_at`, which first asks whether the slot
+// has a bit and, for each word, whether the row is there.
 pub(crate) fn slot_in(rows: &[u64], base: usize, slot: u64) -> Option<f64>
     requires { (base + 7 + slot < length rows.now) × (slot < 64) }
     ensures { result ≡ slot_of (words_from rows.now base) slot }

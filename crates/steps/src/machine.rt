@@ -80,7 +80,8 @@ fn tested(kind: u8, numbers: &[f64], there: &[bool], top: usize) -> bool
     values::within(c, b, a)
 }
 
-// How many steps of a list are run: whole ones, and no more than 1,024.
+// How many steps of a list are run: whole ones, and no more than 1,024. The list and that number travel as two: each step is read at its place
+// in the whole list, and of a part each contract would have to say that its steps are those of the list.
 #[tactic(auto, unfolding(crate::specs::Bytes::steps_run))]
 fn steps_run(list: &[u8]) -> usize
     ensures { result ≡ steps_run list.now }
@@ -88,9 +89,9 @@ fn steps_run(list: &[u8]) -> usize
     (list.len() / 16).min(MOST_STEPS)
 }
 
-// The run of the first n steps with so many places for values; nothing where a value finds no place. Below these lie four that are
-// always missing: no step takes more. The kinds are asked for in the order of how often they stand in a list; a jump is an `if`, not a
-// sum, so that the next step need not wait for the answer.
+// The run of the first n steps with so many places for values; nothing where a value finds no place. Below these lie four that are always
+// missing: no step takes more. The kinds are asked for in the order of how often they stand in a list; a jump is an `if`, not a sum, so
+// that the next step need not wait for the answer.
 fn run_with(
     list: &[u8],
     n: usize,

@@ -1,4 +1,5 @@
-// Rule 7: each tree in prefix order. The array of subtree ends is filled on the way, from a tree's last node to its first.
+// Rule 7: each tree in prefix order. The array of subtree ends is filled on the way, from a tree's last node to its first. It is handed on
+// beside the table: in a struct of two references each contract would say `whole.t.now` and `whole.ends.now`, and be longer.
 ghost use Rattle.std.specs.Prelude.{◌≡◌, ◌+◌, ◌-◌, ◌≤◌, ◌<◌, true};
 ghost use Rattle.words.specs.Limits.{most_nodes};
 ghost use Rattle.table.specs.Nodes.{child_count_at, child_sort_at, child_fits_at};

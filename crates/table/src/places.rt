@@ -2,7 +2,7 @@
 ghost use Rattle.std.specs.Prelude.{◌≡◌};
 ghost use Rattle.table.specs.Order.{or_place, first_place};
 
-// The first place, or the second where there is no first.
+// The first place, or the second where there is no first: one call of the library, with the name that the definitions have.
 fn or_place(p: Option<usize>, q: Option<usize>) -> Option<usize>
     ensures { result ≡ or_place p q }
 {

@@ -62,7 +62,7 @@ fn is_acceptable(pnl: u64, reason: u64) -> bool
     1 <= reason && reason <= 6 && floats::word_is_finite(pnl)
 }
 
-// Yes is 1, no is 0.
+// Yes is 1, no is 0. One call of the library, with a name so that its contract says the definition `bit_of`.
 #[tactic(auto, unfolding(crate::specs::Trades::bit_of))]
 fn bit_of(b: bool) -> u64
     ensures { result ≡ bit_of b }

@@ -20,7 +20,7 @@ fn put_four(room: &mut [u8], p: usize, a: u8, b: u8, c: u8, d: u8)
     room[p..p + 4].copy_from_slice(&[a, b, c, d]);
 }
 
-// The lowest byte of a number.
+// The lowest byte of a number: one call of the library, with a name since seven bytes are written by it.
 fn low(n: u64) -> u8
     ensures { result ≡ n % 256 }
 {
