@@ -1,11 +1,7 @@
 -- The test is the definition's.
-use Rattle.words.specs.Prelude.{rules, lt-ltb, le-ltb}
+use Rattle.words.specs.Prelude.{lt-ltb, le-ltb}
 use Rattle.capi.specs.{Run.says_of}
 use Rattle.capi.proofs.run.says_of.Goals as goal
-
-pub bit_of-requires : goal.bit_of-requires
-unfolding says_of
-bit_of-requires c = search rules
 
 pub returns-then-tree-lt-TREES : goal.returns-then-tree-lt-TREES
 unfolding says_of
