@@ -23,8 +23,10 @@ fn end_below(t: &[u8], ends: &[usize; 256], i: usize, e: usize, below: u8, many:
     requires i_value { (child_fits_at t.now i ≡ true) × (many ≡ child_count_at t.now i) × (below ≡ child_sort_at t.now i) }
     ensures { Ended t.now e i result }
 {
+    // by hand, as in weighing.rt
+    let mut left = many;
     let mut j = i + 1;
-    for _ in 0..many {
+    while 0 < left {
         if e <= j {
             return MISFIT_FROM + j;
         }
@@ -36,6 +38,7 @@ fn end_below(t: &[u8], ends: &[usize; 256], i: usize, e: usize, below: u8, many:
             return v;
         }
         j = v;
+        left -= 1;
     }
     j
 }
@@ -61,7 +64,9 @@ fn order_tree(t: &[u8], given: [usize; 256], b: usize, e: usize) -> [usize; 256]
     ensures { Ordered t.now b e given result }
 {
     let mut ends = given;
-    for i in (b..e).rev() {
+    let mut i = e;
+    while b < i {
+        i -= 1;
         let v = end_of(t, &ends, i, e);
         ends[i] = v;
     }

@@ -132,8 +132,10 @@ pub(crate) fn add_trades(sum: &mut [u64; SUM_WORDS], trades: &[u64])
     ensures { sum.new ≡ sum_with sum.old (pnl_sum (trades_of trades.now)) }
 {
     let n = trades.len() / TRADE_WORDS;
-    for i in 0..n {
+    let mut i: usize = 0;
+    while i < n {
         add_float(sum, trades[TRADE_WORDS * i + places::TRADE_PNL]);
+        i += 1;
     }
 }
 
