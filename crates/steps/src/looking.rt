@@ -204,15 +204,16 @@ fn has_word(rows: &[u64], slots: usize, base: usize, slot: bool, which: u8) -> b
     true
 }
 
-// How many rows were passed, and the word of the best up to them.
+// How many rows are left, and the word of the best up to them.
 #[derive(Clone, Copy)]
 struct Quick {
-    passed: usize,
+    left: usize,
     best: u64,
 }
 
 // The best of `start` and `count` rows, one after the other from word `base`, up to one that does not have it, or that is negative, infinite
 // or a NaN. What does not change from row to row is asked for once by the compiler, so this is a loop for each case.
+// A countdown by hand, since both `for passed in 0..count` and `.rev()` cost one instruction more a row: 9.8 in place of 8.8.
 fn quick_rows(
     kind: u8,
     rows: &[u64],
@@ -224,35 +225,34 @@ fn quick_rows(
     start: u64,
 ) -> Quick
     requires { (base + count * (7 + slots) ≤ length rows.now) × InRow slots slot which × (start < 0x7ff0_0000_0000_0000) }
-    ensures { (result.passed ≤ count) × (Some (float_of result.best)
-        ≡ best_after kind (over_of slot which) rows.now slots base (Some (float_of start)) result.passed) }
+    ensures { (result.left ≤ count) × (Some (float_of result.best)
+        ≡ best_after kind (over_of slot which) rows.now slots base (Some (float_of start)) (count - result.left)) }
 {
     let place = place_of(slot, which);
     let mut best = start;
     let mut at = base;
-    for passed in 0..count {
+    let mut left = count;
+    while 0 < left {
         if !has_word(rows, slots, at, slot, which) {
-            return Quick { passed, best };
+            return Quick { left, best };
         }
         let word = rows[at + place];
         if kind == kinds::HIGHEST {
             if best < word {
                 if INFINITY <= word {
-                    return Quick { passed, best };
+                    return Quick { left, best };
                 }
                 best = word;
             }
         } else if word < best {
             best = word;
         } else if INFINITY <= word {
-            return Quick { passed, best };
+            return Quick { left, best };
         }
         at += words::limits::ROW_FIXED + slots;
+        left -= 1;
     }
-    Quick {
-        passed: count,
-        best,
-    }
+    Quick { left, best }
 }
 
 // The row reached, and the best up to it.
@@ -288,7 +288,7 @@ fn quick_from(
             let count = (held - row).min(newest - at);
             let quick = quick_rows(kind, rows, slots, base, count, slot, which, word);
             return Looked {
-                at: at + quick.passed,
+                at: at + (count - quick.left),
                 best: floats::float_of(quick.best),
             };
         }

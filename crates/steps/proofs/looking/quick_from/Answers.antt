@@ -44,6 +44,9 @@ quick_rows-quick-requires c =
     (omega (arith, some, row_within, c.min-count.ensures)) in
     (ends, c.in_row.ensures c.if-in_row.true, c.if-word-lt-INFINITY.true)
 
+pub overflow_sub-result : goal.overflow_sub-result
+overflow_sub-result c = omega (arith, c.quick_rows-quick.ensures.0)
+
 pub overflow_add-result : goal.overflow_add-result
 overflow_add-result c = omega (arith, c.quick_rows-quick.ensures.0, c.min-count.ensures)
 
@@ -54,7 +57,7 @@ returns-then-word-lt-INFINITY c =
     let over = over_of a.slot a.which in
     let count = c.min-count.result in
     let most = c.min-count.ensures in
-    let m = c.quick_rows-quick.result.passed in
+    let m = count - c.quick_rows-quick.result.left in
     let back : float_of c.word_of-word.result ≡ a.best =
     ap float_of c.word_of-word.ensures ∙ of_bits-to_bits binary64 a.best (subst T (sym c.well_formed.1.1.1.1.1.1.1.0.1) tt) in (
       omega (arith, most, c.requires.2),
