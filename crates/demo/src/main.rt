@@ -5,9 +5,9 @@
 mod bars;
 mod loss;
 mod report;
-use words::refusal::Refusal;
-use needed::depth::Needs;
+
 use metrics::Metrics;
+use needed::depth::Needs;
 use records::settings::Settings;
 use records::state::State;
 use refusals::day::Span;
@@ -17,6 +17,7 @@ use std::io::{BufWriter, Write};
 use table::trees::Tree;
 use words::limits::SETTING_WORDS;
 use words::places;
+use words::refusal::Refusal;
 
 // The paper's worked example: entry CrossAbove(slot 0, slot 1); exit Lt(close, Prev(close, 2)). K is 2.
 const TABLE: [u8; 128] = [
