@@ -46,7 +46,7 @@ entry_filled side kind price s p k before number =
 unfoldable pub facing : Position → Candle → Position
 facing p k = record { portfolio = worsened p.portfolio k; entered = p.entered; extreme = p.extreme }
 
--- "(Option Closed) only if |qty| > EPS."
+-- "Exit only if |qty| > EPS."
 unfoldable pub exit_filled : Settings → Position → Candle → Filled
 exit_filled s p k =
     let q = facing p k in

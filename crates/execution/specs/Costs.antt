@@ -30,6 +30,6 @@ unfoldable pub with_funding : Option Funding → Portfolio → Portfolio
 with_funding None p = p
 with_funding (Some funding) p = funded p (p.qty ⊗ funding.mark ⊗ funding.rate)
 
--- `charge_funding`. "(Option Funding): in a position, if switched on, qty·mark·rate leaves cash."
+-- `charge_funding`. "Funding: in a position, if switched on, qty·mark·rate leaves cash."
 unfoldable pub charge_funding : Bool → Option Funding → Portfolio → Portfolio
 charge_funding on f p = cond on (cond (in_position p) (with_funding f p) p) p

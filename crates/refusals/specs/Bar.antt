@@ -36,7 +36,7 @@ abbrev pub candle_fine : Candle → Bool
 candle_fine k = finite k.«open» && finite k.high && finite k.low && finite k.close && finite k.volume
 
 -- "11: in the new bar, not in kept rows: a price, volume, mark, rate or present slot not finite, or a slot bit at or above
--- K"; the place is bars seen. (Option Funding) is checked where it is supplied, be it switched on or off.
+-- K"; the place is bars seen. Funding is checked where it is supplied, be it switched on or off.
 unfoldable pub bar_lines : ℕ → List ℕ → ℕ → List Line
 bar_lines K bar seen =
     line (candle_fine (candle_of bar)) (Refusal.Bar seen)

@@ -7,9 +7,13 @@ use Rattle.refusals.specs.{Lines.line}
 use Rattle.refusals.specs.{Lines.Verdict}
 use Rattle.words.specs.{Outcome.number_of, Outcome.place_of}
 
+-- a number times 2^32 plus a place, each by its 32 lowest bits
+abbrev pub two_halves : ℕ → ℕ → ℕ
+two_halves number place = number % 2 ^ 32 * 2 ^ 32 + place % 2 ^ 32
+
 -- An answer in C: the refusal's number times 2^32 plus its place, each by its 32 lowest bits; 0 where the call did its work.
 unfoldable pub answer_word : Refusal → ℕ
-answer_word r = number_of r % 2 ^ 32 * 2 ^ 32 + (place_of r) % 2 ^ 32
+answer_word r = two_halves (number_of r) (place_of r)
 
 -- the answer, and all that was lent for writing as it is left
 pub record Call (A : Type 0) : Type 0 where

@@ -68,7 +68,7 @@ line_holds : (ok : Bool) (why : Refusal) (later : Result (Unit {0}) Refusal) →
 line_holds true why later h = refl
 line_holds false why later h = absurd (let z : ◌≡◌ {A = ℕ} 0 1 = cc in omega arith)
 
--- where two lines answer (Ok tt), both hold
+-- where two lines hold together, each does
 both_hold : (p q : Bool) (a b : Refusal) → unless p a (unless q b (Ok tt)) ≡ Ok tt → (p ≡ true) × (q ≡ true)
 both_hold true true a b e = (refl, refl)
 both_hold true false a b e = absurd (let z : ◌≡◌ {A = ℕ} 0 1 = cc in omega arith)
