@@ -43,13 +43,10 @@ pub(crate) fn drawdown_from(start: f64, equity: &[u64]) -> f64
     let n = columns::point_count(equity);
     let mut peak = start;
     let mut deepest = 0.0;
-    // by hand: with `for` the figures take 18 instructions in a hundred more a point
-    let mut i = 0;
-    while i < n {
+    for i in 0..n {
         let e = columns::equity_at(equity, i);
         peak = peak_at(peak, e);
         deepest = deepest_at(peak, deepest, e);
-        i += 1;
     }
     deepest
 }

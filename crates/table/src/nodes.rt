@@ -122,13 +122,10 @@ pub fn wrong_node(t: &[u8], total: usize) -> Option<usize>
     ensures { result ≡ wrong_node t.now total 0 }
 {
     let form = form_of(t);
-    // by hand: a `for` costs some two instructions more a turn
-    let mut i = 0;
-    while i < total {
+    for i in 0..total {
         if !node_right(t, form, i) {
             return Some(i);
         }
-        i += 1;
     }
     None
 }

@@ -23,10 +23,8 @@ fn end_below(t: &[u8], ends: &[usize; 256], i: usize, e: usize, below: u8, many:
     requires i_value { (child_fits_at t.now i ≡ true) × (many ≡ child_count_at t.now i) × (below ≡ child_sort_at t.now i) }
     ensures { Ended t.now e i result }
 {
-    // by hand, as in weighing.rt
-    let mut left = many;
     let mut j = i + 1;
-    while 0 < left {
+    for _ in 0..many {
         if e <= j {
             return MISFIT_FROM + j;
         }
@@ -38,7 +36,6 @@ fn end_below(t: &[u8], ends: &[usize; 256], i: usize, e: usize, below: u8, many:
             return v;
         }
         j = v;
-        left -= 1;
     }
     j
 }
@@ -64,9 +61,7 @@ fn order_tree(t: &[u8], given: [usize; 256], b: usize, e: usize) -> [usize; 256]
     ensures { Ordered t.now b e given result }
 {
     let mut ends = given;
-    let mut i = e;
-    while b < i {
-        i -= 1;
+    for i in (b..e).rev() {
         let v = end_of(t, &ends, i, e);
         ends[i] = v;
     }

@@ -51,23 +51,21 @@ fn weight_at(t: &[u8], what: Weight, i: usize) -> u64
     }
 }
 
-// The greatest word of node i's children. This loop and those of the passes count by hand: a `for` costs some two instructions more a turn,
-// and the check of a large table 3 to 6 in a hundred more.
+// The greatest word of node i's children.
 fn most_below(t: &[u8], ends: &[usize; 256], words: &[u64; 256], i: usize, e: usize) -> u64
     requires i_lt_e { (i < e) × (e ≤ most_nodes) }
     requires linked { Linked t.now ends.now (i + 1) e }
     ensures { Most t.now words.now i e result }
 {
-    let mut left = child_count_at(t, i);
+    let children = child_count_at(t, i);
     let mut most: u64 = 0;
     let mut j = i + 1;
-    while j < e {
-        if left == 0 {
+    for _ in 0..children {
+        if e <= j {
             return most;
         }
         most = most.max(words[j]);
         j = ends[j];
-        left -= 1;
     }
     most
 }
@@ -84,9 +82,7 @@ pub(crate) fn weigh_tree(
     ensures { WordsFrom t.now result (weight what) b e }
 {
     let mut words = [0u64; 256];
-    let mut i = e;
-    while b < i {
-        i -= 1;
+    for i in (b..e).rev() {
         let own = weight_at(t, what, i);
         let most = most_below(t, ends, &words, i, e);
         let x = capped(own + most);

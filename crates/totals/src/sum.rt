@@ -132,10 +132,8 @@ pub(crate) fn add_trades(sum: &mut [u64; SUM_WORDS], trades: &[u64])
     ensures { sum.new ≡ sum_with sum.old (pnl_sum (trades_of trades.now)) }
 {
     let n = trades.len() / TRADE_WORDS;
-    let mut i: usize = 0;
-    while i < n {
+    for i in 0..n {
         add_float(sum, trades[TRADE_WORDS * i + places::TRADE_PNL]);
-        i += 1;
     }
 }
 

@@ -6,6 +6,3 @@ use Rattle.table.proofs.nodes.wrong_node.Given as goal
 
 abbrev pub invariant-loop-i : goal.invariant-loop-i
 invariant-loop-i l = wrong_node l.t l.total 0 ≡ wrong_node l.t (l.total - l.i) l.i
-
-abbrev pub decreases-loop-i : goal.decreases-loop-i
-decreases-loop-i l = l.total - l.i

@@ -111,5 +111,7 @@ unfolding good_start
 returns c =
     let l = c.loop-i in
     let trades = c.args.trades.now in
-    ends c.args.counts.now trades c.args.n l.counts l.i (good_from c.args.n l.i trades) l.invariant.1
-    (ap good_start (trades_none c.args.n l.i trades c.loop-i-test.false)) l.invariant.3
+    let end : c.args.n ≡ l.i = omega arith in
+    let told = ends c.args.counts.now trades c.args.n l.counts l.i (good_from c.args.n l.i trades) l.invariant.1
+    (ap good_start (trades_none c.args.n l.i trades c.loop-i-test.false)) l.invariant.3 in
+    (end ∙ told.0, told.1)

@@ -16,6 +16,3 @@ Counted counts₀ trades n counts i good =
 
 abbrev pub invariant-loop-i : goal.invariant-loop-i
 invariant-loop-i l = (l.i ≤ l.n) × (length l.counts ≡ count_size) × AllAtMost (most_count + l.i) l.counts × Counted l.initial.counts l.trades l.n l.counts l.i (good_from l.n l.i l.trades)
-
-abbrev pub decreases-loop-i : goal.decreases-loop-i
-decreases-loop-i l = l.n - l.i

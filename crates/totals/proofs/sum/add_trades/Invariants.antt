@@ -7,6 +7,3 @@ use Rattle.totals.proofs.sum.add_trades.Given as goal
 abbrev pub invariant-loop-i : goal.invariant-loop-i
 invariant-loop-i l = (l.i ≤ l.n) × AreWords l.sum × (length l.sum ≡ sum_size)
     × (sum_with l.sum (pnl_sum (trades_from (l.n - l.i) l.i l.trades)) ≡ sum_with l.initial.sum (pnl_sum (trades_from l.n 0 l.trades)))
-
-abbrev pub decreases-loop-i : goal.decreases-loop-i
-decreases-loop-i l = l.n - l.i
