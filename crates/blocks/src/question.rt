@@ -6,17 +6,15 @@ ghost use Rattle.blocks.specs.Reads as Reads;
 
 use crate::best::{BLOCK_BARS, Best, block, join, one};
 
-// The best so far, and n single bars more. By hand, as the next: with `for` a question takes 17 instructions in a hundred more.
+// The best so far, and n single bars more.
 #[tactic(auto, unfolding(crate::specs::Blocks::with_closes))]
 fn singles(closes: &[u64], from: Best, bar: usize, n: usize) -> Best
     requires { bar + n ≤ length closes.now }
     ensures { result ≡ Blocks.with_closes closes.now from bar n }
 {
     let mut best = from;
-    let mut i: usize = 0;
-    while i < n {
+    for i in 0..n {
         best = join(best, one(closes[bar + i], bar + i));
-        i += 1;
     }
     best
 }
@@ -28,10 +26,8 @@ fn wholes(blocks: &[u64], from: Best, j: usize, n: usize) -> Best
     ensures { result ≡ Blocks.with_blocks blocks.now from j n }
 {
     let mut best = from;
-    let mut i: usize = 0;
-    while i < n {
+    for i in 0..n {
         best = join(best, block(blocks, j + i));
-        i += 1;
     }
     best
 }

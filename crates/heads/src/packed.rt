@@ -10,10 +10,10 @@ use words::limits::STATE_WORDS;
 use words::places;
 
 // `WDP` and version 1, where they stand in the first word.
-pub const HEAD_MARK: u64 = 87 + 256 * 68 + 65536 * 80 + 4294967296;
+const HEAD_MARK: u64 = 87 + 256 * 68 + 65536 * 80 + 4294967296;
 
 // The header's words, of a state's: of a number its lowest bytes, as many as it has in the image.
-fn pack(w: &[u64], slots: u64, depth: u64, held: u64) -> [u64; 17]
+pub(crate) fn pack(w: &[u64], slots: u64, depth: u64, held: u64) -> [u64; 17]
     requires { state_words ≤ length w.now }
     ensures { result ≡ head_words slots depth held w.now }
 {

@@ -5,7 +5,7 @@ ghost use Rattle.floats.specs.Floats.{word_of, float_of};
 ghost use Rattle.heads.specs.Laws.Packed.{head_words};
 ghost use Rattle.heads.specs.Laws.Plain.{order_in, kind_in, unless_zero, plain_words};
 
-use crate::packed::HEAD_MARK;
+use crate::packed::pack;
 use words::limits::STATE_WORDS;
 use words::places;
 
@@ -62,23 +62,22 @@ pub fn limit_in(kind: u64, w: u64) -> u64
     0
 }
 
-// The header's words, of a state's words where there are all of them. Written out, and not packed from the words made plain: so the first part of a dump
-// takes 149 instructions less.
-pub fn direct_head(w: &[u64], slots: u64, depth: u64, held: u64) -> [u64; 17]
-    ensures { state_words ≤ length w.now → result ≡ head_words slots depth held (plain_words w.now) }
+// The words of a state, as the state that they mean has them.
+fn plain_words(w: &[u64]) -> [u64; STATE_WORDS]
+    requires { state_words ≤ length w.now }
+    ensures { result ≡ plain_words w.now }
 {
-    if w.len() < STATE_WORDS {
-        return [0u64; 17];
-    }
     let order = order_in(w[places::ORDER]);
     let kind = kind_in(order, w[places::ORDER_KIND]);
-    let there = unless_zero(w[places::ENTERED], 1);
-    let bar = unless_zero(w[places::ENTERED], w[places::ENTRY_BAR]);
     [
-        HEAD_MARK + 16777216 * (slots % 256) + 281474976710656 * (depth % 65536),
-        w[places::BARS_SEEN] % 4294967296 + 4294967296 * (held % 4294967296),
-        order % 256 + 256 * (kind % 256) + 65536 * (there % 256) + 4294967296 * (bar % 4294967296),
+        w[places::BARS_SEEN],
+        w[places::ROWS_HELD],
+        w[places::EQUITY_POINTS],
+        w[places::TRADES],
+        order,
         unless_zero(order, w[places::ORDER_DELAY]),
+        unless_zero(w[places::ENTERED], 1),
+        unless_zero(w[places::ENTERED], w[places::ENTRY_BAR]),
         plain_word(w[places::CASH]),
         plain_word(w[places::QTY]),
         plain_word(w[places::ENTRY_PRICE]),
@@ -88,9 +87,20 @@ pub fn direct_head(w: &[u64], slots: u64, depth: u64, held: u64) -> [u64; 17]
         plain_word(w[places::EXTREME]),
         w[places::LAST_TIME],
         plain_word(w[places::LAST_CLOSE]),
+        kind,
         unless_zero(kind, plain_word(w[places::ORDER_LEVEL])),
         limit_in(kind, w[places::ORDER_LIMIT]),
         plain_word(w[places::OPEN_FUNDING]),
         plain_word(w[places::OPEN_WORST]),
     ]
+}
+
+// The header's words, of a state's words where there are all of them.
+pub fn direct_head(w: &[u64], slots: u64, depth: u64, held: u64) -> [u64; 17]
+    ensures { state_words ≤ length w.now → result ≡ head_words slots depth held (plain_words w.now) }
+{
+    if w.len() < STATE_WORDS {
+        return [0u64; 17];
+    }
+    pack(&plain_words(w), slots, depth, held)
 }
