@@ -80,12 +80,15 @@ fn lay_known(area: &mut [u8], base: usize, list: &[u64], i: usize, j: usize)
     }
 }
 
-// Zero bytes p to q: those of words past the end.
+// Zero bytes p to q: those of words past the end. A loop and not `fill`, which writes its last byte by itself: what clears the others would
+// then be handed an odd number of them, and go byte by byte where there are whole words.
 fn lay_zeros(area: &mut [u8], base: usize, list: &[u64], p: usize, q: usize)
-    requires { (8 * length list.now ≤ p) × (p ≤ q) × (base + q ≤ length area.old) }
+    requires { (8 * length list.now ≤ p) × (base + q ≤ length area.old) }
     ensures { area.new ≡ laid area.old base (words_bytes list.now) p (q - p) }
 {
-    area[base + p..base + q].fill(0);
+    for k in p..q {
+        area[base + k] = 0;
+    }
 }
 
 // The bytes of words i to j, those past the end zero.
