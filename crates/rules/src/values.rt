@@ -1,28 +1,24 @@
 // The leaves of a rule, one function for each: what a price, a slot, an operation and a comparison is. The evaluator
-// and the steps call these, so each is decided once. All are total, `price_by` as far as the reader that it is handed.
-ghost use Rattle.std.specs.Prelude.{◌≡◌, ℕ, ◌-◌, ◌≤◌, Float};
-ghost use Rattle.floats.specs.Floats.{float_of};
+// and the steps call these, so each is decided once. All are total.
+ghost use Rattle.std.specs.Prelude.{◌≡◌, ◌-◌};
+ghost use Rattle.floats.specs.Floats.{float_of, ◌⊕◌, ◌⊘◌, three, four};
 ghost use Rattle.rules.specs.Values.{words_from, price_of, slot_of, divide, tested, held, counted_since};
 ghost use Rattle.rules.specs.Values as Values;
 
 use crate::position::PositionState;
 use table::kinds;
 
-// `price` of a row, by its selector, where `field` gives its words 1 to 5 as floats.
-pub fn price_by<F: Fn(usize) -> f64>(selector: u8, field: F) -> f64
-    requires { (j : ℕ) → 1 ≤ j → j ≤ 5 → F.pre field j }
-    ensures { (row : ℕ → ℕ) → ((j : ℕ) (x : Float) → F.post field j x → x ≡ float_of (row j)) → result ≡ price_of row selector }
+// "hlc3 is ((high+low)+close)/3"
+pub fn typical(high: f64, low: f64, close: f64) -> f64
+    ensures { result ≡ (high ⊕ low ⊕ close) ⊘ three }
 {
-    if selector < 5 {
-        return field(selector as usize + 1);
-    }
-    let high = field(words::places::BAR_HIGH);
-    let low = field(words::places::BAR_LOW);
-    let close = field(words::places::BAR_CLOSE);
-    if selector == 5 {
-        return (high + low + close) / 3.0;
-    }
-    let open = field(words::places::BAR_OPEN);
+    (high + low + close) / 3.0
+}
+
+// "ohlc4 (((open+high)+low)+close)/4"
+pub fn mean_price(open: f64, high: f64, low: f64, close: f64) -> f64
+    ensures { result ≡ («open» ⊕ high ⊕ low ⊕ close) ⊘ four }
+{
     (open + high + low + close) / 4.0
 }
 
@@ -30,7 +26,21 @@ pub fn price_by<F: Fn(usize) -> f64>(selector: u8, field: F) -> f64
 pub fn price_at(rows: &[u64], base: usize, selector: u8) -> f64
     ensures { result ≡ price_of (words_from rows.now base) selector }
 {
-    price_by(selector, |j| field_at(rows, base, j))
+    if selector < 5 {
+        return field_at(rows, base, selector as usize + 1);
+    }
+    let high = field_at(rows, base, words::places::BAR_HIGH);
+    let low = field_at(rows, base, words::places::BAR_LOW);
+    let close = field_at(rows, base, words::places::BAR_CLOSE);
+    if selector == 5 {
+        return typical(high, low, close);
+    }
+    mean_price(
+        field_at(rows, base, words::places::BAR_OPEN),
+        high,
+        low,
+        close,
+    )
 }
 
 // Word j of the row that begins at word `base`, as a float.

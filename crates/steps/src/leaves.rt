@@ -136,12 +136,26 @@ fn field_at_once(rows: &[u64], base: usize, selector: u8) -> AtOnce
     AtOnce { told: false, value }
 }
 
-// A price of that row, which is there.
+// A price of that row, which is there: as `values::price_at`, with no test of where a word lies.
 pub(crate) fn price_in(rows: &[u64], base: usize, selector: u8) -> f64
     requires { base + 7 ≤ length rows.now }
     ensures { result ≡ price_of (words_from rows.now base) selector }
 {
-    values::price_by(selector, |j| field_in(rows, base, j))
+    if selector < 5 {
+        return field_in(rows, base, selector as usize + 1);
+    }
+    let high = field_in(rows, base, words::places::BAR_HIGH);
+    let low = field_in(rows, base, words::places::BAR_LOW);
+    let close = field_in(rows, base, words::places::BAR_CLOSE);
+    if selector == 5 {
+        return values::typical(high, low, close);
+    }
+    values::mean_price(
+        field_in(rows, base, words::places::BAR_OPEN),
+        high,
+        low,
+        close,
+    )
 }
 
 // A slot of that row, which has it. The test of one bit is all that it has in common with `values::slot_at`, which first asks whether the slot
