@@ -6,7 +6,7 @@ ghost use Rattle.std.specs.Prelude.{◌≡◌, ◌≤◌, length, take, IfOk, On
 ghost use Rattle.std.specs.Io.KnownBytes.{Appends};
 ghost use Rattle.table.specs.Checked.{checked};
 ghost use Rattle.answers.specs.Text.{put, next, IsPrefixLen};
-ghost use Rattle.answers.specs.Lines.{two_numbers, line_of};
+ghost use Rattle.answers.specs.Lines.{two_numbers, refused_line, line_of};
 
 use put::{put, put_decimal};
 use std::alloc::Global;
@@ -34,6 +34,16 @@ fn put_numbers(room: &mut [u8], what: &[u8], first: u64, then: &[u8], second: u6
     put(room, 0, &line[..d + 1])
 }
 
+// Puts the line of a refusal at the start of the room, whatever its number and its place are, and answers how many bytes it has, 51 at the
+// most; where it does not fit, 0, and the room is as it was.
+pub fn put_refused(room: &mut [u8], number: u64, place: u64) -> usize
+    ensures value { result ≡ next room.old 0 (refused_line number place) }
+    ensures room_after { room.new ≡ put room.old 0 (refused_line number place) }
+    ensures prefix_len { IsPrefixLen result room.new }
+{
+    put_numbers(room, b"refused ", number, b" at ", place)
+}
+
 // Puts the line of an answer at the start of the room and answers how many bytes it has, 62 at the most; where it does not
 // fit, 0, and the room is as it was.
 pub fn put_answer(room: &mut [u8], answer: Result<Accepted, Refusal>) -> usize
@@ -49,13 +59,7 @@ pub fn put_answer(room: &mut [u8], answer: Result<Accepted, Refusal>) -> usize
             b" rows ",
             rows,
         ),
-        Err(refusal) => put_numbers(
-            room,
-            b"refused ",
-            refusal.number(),
-            b" at ",
-            refusal.place(),
-        ),
+        Err(refusal) => put_refused(room, refusal.number(), refusal.place()),
     }
 }
 

@@ -2,7 +2,7 @@
 // What every call shares: the word that it answers, and refusal 10 for the rooms that only the C calls have.
 ghost use Rattle.std.specs.Prelude.{◌≡◌};
 ghost use Rattle.refusals.specs.Lines.{judged};
-ghost use Rattle.replies.specs.Call.{answer_word, bit_of, word_lines, metric_lines};
+ghost use Rattle.replies.specs.Call.{two_halves, answer_word, bit_of, word_lines, metric_lines};
 
 use refusals::verdict::{Verdict, line};
 use words::limits::{METRIC_WORDS, SETTING_WORDS, STATE_WORDS};
@@ -18,11 +18,19 @@ const METRICS_ROOM: u64 = 9;
 // A part of an answer: the refusal's number stands in the upper half of the word, its place in the lower.
 pub const HALF: u64 = 4_294_967_296;
 
+// A number and a place as one word, whatever they are.
+pub fn two_halves(number: u64, place: u64) -> u64
+    ensures { result ≡ two_halves number place }
+{
+    number % HALF * HALF + place % HALF
+}
+
 // A refusal as one word.
+#[tactic(auto, unfolding(crate::specs::Call::answer_word))]
 pub fn answer_word(refusal: Refusal) -> u64
     ensures { result ≡ answer_word refusal }
 {
-    refusal.number() % HALF * HALF + refusal.place() % HALF
+    two_halves(refusal.number(), refusal.place())
 }
 
 // Yes is 1, no is 0. One call of the library, with a name so that its contract says the definition `bit_of`.

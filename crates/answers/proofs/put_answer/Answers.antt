@@ -15,7 +15,7 @@ returns-in-Ok c =
 pub returns-in-Err : goal.returns-in-Err
 unfolding line_of
 returns-in-Err c =
-    let r = c.put_numbers-in-Err in
+    let r = c.put_refused in
     let room = c.args.room.now in
     let why = c.in-Err.refusal in
     let e : refused_line c.number.result c.place.result ≡ line_of c.args.answer = ap (λ (k : ℕ). refused_line k c.place.result) c.number.ensures
