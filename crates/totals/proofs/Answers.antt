@@ -1,5 +1,6 @@
 -- What each line of the two orders of refusals needs to be the answer. Assumes nothing.
 use Rattle.std.specs.Prelude.{Err, Ok, Result}
+use Rattle.std.specs.Result.{result_and}
 use Rattle.words.specs.Prelude.{◌≡◌, refl, sym, ap, subst, ◌∙◌, Bool, true, false, cond, false≢true, List, [], ◌∷◌, ◌++◌, ℕ, ◌+◌, ◌*◌, ◌/◌, ◌%◌, ◌<◌, ◌≤◌}
 use Rattle.words.specs.Prelude.{arith, le-leb, lt-leb, eq-eqb, ne_eqb, leb-true, leb-false, leb, length}
 use Rattle.words.specs.{Words.word, Words.overwrite, Limits.trade_words, Limits.most_count, declared.refusal.Refusal.Refusal}
@@ -60,13 +61,9 @@ at_most_as e f h = omega arith
 -- ---- lines of an order
 
 -- a line that refuses by itself refuses whatever follows; one that does not leaves it to what follows
-line_refuses : (ok : Bool) (why : Refusal) (later : Result (Unit {0}) Refusal) {r : Refusal} → unless ok why (Ok tt) ≡ Err r → unless ok why later ≡ Err r
-line_refuses true why later h = absurd (let z : ◌≡◌ {A = ℕ} 0 1 = cc in omega arith)
-line_refuses false why later h = h
-
-line_holds : (ok : Bool) (why : Refusal) (later : Result (Unit {0}) Refusal) → unless ok why (Ok tt) ≡ Ok tt → unless ok why later ≡ later
-line_holds true why later h = refl
-line_holds false why later h = absurd (let z : ◌≡◌ {A = ℕ} 0 1 = cc in omega arith)
+first_line : (ok : Bool) (why : Refusal) (later : Result (Unit {0}) Refusal) → result_and (unless ok why (Ok tt)) later ≡ unless ok why later
+first_line true why later = refl
+first_line false why later = refl
 
 -- where two lines hold together, each does
 both_hold : (p q : Bool) (a b : Refusal) → unless p a (unless q b (Ok tt)) ≡ Ok tt → (p ≡ true) × (q ≡ true)
@@ -103,21 +100,16 @@ module _ (totals trades : List ℕ) where
         unfolding add_answer
         add_left = simp (le-leb _ _ long, eq-eqb _ _ whole, fine)
 
-        -- 17 decides where it refuses ..
-        pub add_bad : {g j : ℕ} {why : Refusal} → g ≡ length good → j ≡ judged_count n → unless (leb j g) (Refusal.Trade g) (Ok tt) ≡ Err why
-            → add_answer totals trades ≡ Err why
-        add_bad {g} {j} {why} u v y =
-            let over = unless (leb (traded (counts_of totals) + n) most_count) Refusal.Total (Ok tt) in
-            add_left ∙ line_refuses (leb (judged_count n) (length good)) (Refusal.Trade (length good)) over (rw (sym u, sym v) y)
-
-        -- .. and else 22
-        pub add_many : {g j m : ℕ} {said : Result (Unit {0}) Refusal} → g ≡ length good → j ≡ judged_count n → m ≡ traded (counts_of totals) + n
-            → unless (leb j g) (Refusal.Trade g) (Ok tt) ≡ Ok tt → said ≡ unless (leb m most_count) Refusal.Total (Ok tt)
+        -- the first of two judgements decides, where each is a line's
+        pub add_judged : {g j m : ℕ} {bad many said : Result (Unit {0}) Refusal} → g ≡ length good → j ≡ judged_count n → m ≡ traded (counts_of totals) + n
+            → bad ≡ unless (leb j g) (Refusal.Trade g) (Ok tt) → many ≡ unless (leb m most_count) Refusal.Total (Ok tt) → said ≡ result_and bad many
             → add_answer totals trades ≡ said
-        add_many {g} {j} {m} {said} u v w y z =
-            let over = unless (leb (traded (counts_of totals) + n) most_count) Refusal.Total (Ok tt) in
-            add_left ∙ line_holds (leb (judged_count n) (length good)) (Refusal.Trade (length good)) over (rw (sym u, sym v) y)
-            ∙ sym (z ∙ ap (λ (k : ℕ). unless (leb k most_count) Refusal.Total (Ok tt)) w)
+        add_judged {g} {j} {m} {bad} {many} {said} u v w x y z =
+            let over = unless (leb m most_count) Refusal.Total (Ok tt) in
+            add_left ∙ sym (z ∙ ap (λ (q : Result (Unit {0}) Refusal). result_and q many) x
+            ∙ ap (result_and (unless (leb j g) (Refusal.Trade g) (Ok tt))) y ∙ first_line (leb j g) (Refusal.Trade g) over
+            ∙ ap (λ (k : ℕ). unless (leb j k) (Refusal.Trade k) over) u ∙ ap (λ (k : ℕ). unless (leb k (length good)) (Refusal.Trade (length good)) over) v
+            ∙ ap (λ (k : ℕ). unless (leb (judged_count n) (length good)) (Refusal.Trade (length good)) (unless (leb k most_count) Refusal.Total (Ok tt))) w)
 
         module _ (done : add_answer totals trades ≡ Ok tt) where
           both : (leb (judged_count n) (length good) ≡ true) × (leb (traded (counts_of totals) + n) most_count ≡ true)

@@ -71,8 +71,9 @@ pub fn add(totals: &mut [u64], trades: &[u64]) -> Result<(), Refusal>
     let n = trades.len() / TRADE_WORDS;
     let judged = judged_count(n);
     let good = counts::count_trades(&mut counts, trades, judged);
-    bad_trade(good, judged)?;
-    too_many(traded + n as u64)?;
+    let bad = bad_trade(good, judged);
+    let many = too_many(traded + n as u64);
+    bad.and(many)?;
     let before = sum::sum_of(totals);
     let mut after = before;
     sum::add_trades(&mut after, trades);

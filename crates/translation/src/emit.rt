@@ -12,12 +12,15 @@ use steps::decode;
 use table::kinds;
 use table::series::{Series, series_in};
 
-// Four bytes, the first at p.
+// Four bytes, the first at p. A store for each, so that an edit can put one of them into another step and leave the others.
 fn put_four(room: &mut [u8], p: usize, a: u8, b: u8, c: u8, d: u8)
     requires { p + 4 ≤ length room.old }
     ensures { room.new ≡ write_at room.old p (a ∷ b ∷ c ∷ d ∷ []) }
 {
-    room[p..p + 4].copy_from_slice(&[a, b, c, d]);
+    room[p] = a;
+    room[p + 1] = b;
+    room[p + 2] = c;
+    room[p + 3] = d;
 }
 
 // The lowest byte of a number: one call of the library, with a name since seven bytes are written by it.

@@ -6,7 +6,7 @@ use Rattle.totals.specs.{Trades.trades_from, Trades.trades_of, Trades.good_start
 use Rattle.totals.specs.{Trades.pnl_sum, Totals.count_size, Totals.AllAtMost, Totals.counts_of}
 use Rattle.totals.specs.{Totals.with_counts, Totals.sum_with, Totals.traded, Totals.counts_fine}
 use Rattle.totals.proofs.{Testing.so, Testing.not_so, Answers.judged_most, Answers.fine_small, Answers.traded_most, Answers.length_of, Answers.written}
-use Rattle.totals.proofs.{Answers.at_most_as, Answers.add_short, Answers.add_ragged, Answers.add_wrong, Answers.add_bad, Answers.add_many, Answers.all_of_them}
+use Rattle.totals.proofs.{Answers.at_most_as, Answers.add_short, Answers.add_ragged, Answers.add_wrong, Answers.add_judged, Answers.all_of_them}
 use Rattle.totals.proofs.{Answers.add_keeps, Answers.add_writes}
 use Rattle.totals.proofs.add.Goals as goal
 
@@ -58,29 +58,17 @@ overflow_add-traded c =
     let good = c.well_formed in
     omega (arith, c.traded-traded.ensures, traded_most c.counts_of-counts.result small.1)
 
-pub returns-in_err-bad_trade : goal.returns-in_err-bad_trade
-returns-in_err-bad_trade c =
-    let fine_held : counts_fine (counts_of c.args.totals.now) ≡ true = ap counts_fine (sym c.counts_of-counts.ensures) ∙ (sym c.fine.ensures ∙ so _ c.if-not-fine.false-raw) in
+pub returns-in_err-and : goal.returns-in_err-and
+returns-in_err-and c =
     let start = c.args in
     let trades = start.trades.now in
+    let fine_held : counts_fine (counts_of start.totals.now) ≡ true = ap counts_fine (sym c.counts_of-counts.ensures) ∙ (sym c.fine.ensures ∙ so _ c.if-not-fine.false-raw) in
     let judged = c.judged_count-judged.ensures in
     let good = c.count_trades-good.ensures.0 ∙ ap (λ (k : ℕ). length (good_start (trades_from k 0 trades))) judged in
-    let told = add_bad start.totals.now trades c.if-totals-lt-TOTAL_WORDS.false c.if-trades-ne0.false fine_held good judged
-    (sym c.bad_trade.ensures ∙ c.in_err-bad_trade.was) in
-    let given : c.from_residual.result ≡ Err c.in_err-bad_trade.field-0.0 = search rules in
-    (given ∙ sym told, add_keeps _ _ _ told)
-
-pub returns-in_err-too_many : goal.returns-in_err-too_many
-returns-in_err-too_many c =
-    let fine_held : counts_fine (counts_of c.args.totals.now) ≡ true = ap counts_fine (sym c.counts_of-counts.ensures) ∙ (sym c.fine.ensures ∙ so _ c.if-not-fine.false-raw) in
-    let start = c.args in
-    let trades = start.trades.now in
-    let judged = c.judged_count-judged in
-    let good = c.count_trades-good.ensures.0 ∙ ap (λ (k : ℕ). length (good_start (trades_from k 0 trades))) judged.ensures in
     let traded = ap (λ (k : ℕ). k + length trades / trade_words) (c.traded-traded.ensures ∙ ap traded c.counts_of-counts.ensures) in
-    let told = add_many start.totals.now trades c.if-totals-lt-TOTAL_WORDS.false c.if-trades-ne0.false fine_held good judged.ensures traded
-    (sym c.bad_trade.ensures ∙ c.in_ok-bad_trade.was) (sym c.in_err-too_many.was ∙ c.too_many.ensures) in
-    let given : c.from_residual-in_err-too_many.result ≡ Err c.in_err-too_many.field-0.0 = search rules in
+    let told = add_judged start.totals.now trades c.if-totals-lt-TOTAL_WORDS.false c.if-trades-ne0.false fine_held good judged traded
+    c.bad_trade-bad.ensures c.too_many-many.ensures (sym c.in_err-and.was ∙ c.and.ensures) in
+    let given : c.from_residual.result ≡ Err c.in_err-and.field-0.0 = search rules in
     (given ∙ sym told, add_keeps _ _ _ told)
 
 pub returns : goal.returns
@@ -92,8 +80,8 @@ returns c =
     let judged = c.judged_count-judged in
     let good = c.count_trades-good.ensures.0 ∙ ap (λ (k : ℕ). length (good_start (trades_from k 0 trades))) judged.ensures in
     let traded = ap (λ (k : ℕ). k + length trades / trade_words) (c.traded-traded.ensures ∙ ap traded c.counts_of-counts.ensures) in
-    let done = add_many totals trades c.if-totals-lt-TOTAL_WORDS.false c.if-trades-ne0.false fine_held good judged.ensures traded
-    (sym c.bad_trade.ensures ∙ c.in_ok-bad_trade.was) (sym c.in_ok-too_many.was ∙ c.too_many.ensures) in
+    let done = add_judged totals trades c.if-totals-lt-TOTAL_WORDS.false c.if-trades-ne0.false fine_held good judged.ensures traded
+    c.bad_trade-bad.ensures c.too_many-many.ensures (sym c.in_ok-and.was ∙ c.and.ensures) in
     let counts =
     c.count_trades-good.ensures.1
     ∙ ap (λ (l : List ℕ). with_counts l (good_start (trades_from judged.result 0 trades))) c.counts_of-counts.ensures
