@@ -10,7 +10,7 @@ use words::limits::STATE_WORDS;
 use words::places;
 
 // `WDP` and version 1, where they stand in the first word.
-const HEAD_MARK: u64 = 87 + 256 * 68 + 65536 * 80 + 4294967296;
+pub const HEAD_MARK: u64 = 87 + 256 * 68 + 65536 * 80 + 4294967296;
 
 // The header's words, of a state's: of a number its lowest bytes, as many as it has in the image.
 pub(crate) fn pack(w: &[u64], slots: u64, depth: u64, held: u64) -> [u64; 17]

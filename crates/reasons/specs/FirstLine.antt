@@ -14,7 +14,7 @@ use Rattle.chain.specs.{Explained.explained_by, Explained.explained}
 use Rattle.words.specs.{declared.refusal.Refusal.Refusal}
 use Rattle.table.specs.{declared.answer.Accepted.Accepted}
 
--- Ok of a tree of so many nodes whose rule answers so: none of an absent tree, which says no; else the first has the answer.
+-- Lines of a tree of so many nodes whose rule answers so: none of an absent tree, which says no; else the first has the answer.
 pub data Leads (nodes : ℕ) (answer : Result Bool Refusal) : List ChainLine → Type 0 where
   absent : nodes ≡ 0 → answer ≡ Ok false → Leads nodes answer []
   leads : (l : ChainLine) (ls : List ChainLine) → 0 < nodes → answer ≡ Ok l.answer → Leads nodes answer (l ∷ ls)

@@ -11,5 +11,4 @@ mod quick;
 pub mod running;
 mod stack;
 pub mod step;
-pub mod translated;
 pub mod wellformed;
