@@ -85,7 +85,9 @@ fn count(counts: &mut [u64; COUNTS], pnl: u64, reason: u64)
     counts[places::TOTAL_LOSSES] = losses;
 }
 
-// Counts the first n trades of a list up to the first that cannot be counted, and says how many that were.
+// Counts the first n trades of a list up to the first that cannot be counted, and says how many that were. A call of its own: compiled into
+// `add`, a trade takes seven instructions more.
+#[inline(never)]
 pub(crate) fn count_trades(counts: &mut [u64; COUNTS], trades: &[u64], n: usize) -> usize
     requires { (n * trade_words ≤ length trades.now) × (n ≤ most_count) × AllAtMost most_count counts.old }
     ensures { (result ≡ length (good_start (trades_from n 0 trades.now)))
