@@ -34,7 +34,7 @@ fn put_numbers(room: &mut [u8], what: &[u8], first: u64, then: &[u8], second: u6
     put(room, 0, &line[..d + 1])
 }
 
-// Puts the line of a refusal at the start of the room, whatever its number and its place are, and answers how many bytes it has, 51 at the
+// Puts the line of a refusal at the start of the room, whatever its number and its place are, and answers how many bytes it has, 53 at the
 // most; where it does not fit, 0, and the room is as it was.
 pub fn put_refused(room: &mut [u8], number: u64, place: u64) -> usize
     ensures value { result ≡ next room.old 0 (refused_line number place) }

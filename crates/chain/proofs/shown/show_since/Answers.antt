@@ -1,5 +1,5 @@
 -- One return for each way to have no entry bar, and one for the count. Assumes nothing.
-use Rattle.words.specs.Prelude.{refl}
+use Rattle.words.specs.Prelude.{◌≡◌, ◌-◌, refl, arith}
 use Rattle.chain.specs.{Chain.shown_since, Lines.detail_of, Lines.detail}
 use Rattle.chain.proofs.shown.show_since.Goals as goal
 
@@ -10,7 +10,8 @@ returns-in-None c = rw (← c.in_position.ensures, c.if-in_position.true, c.in-N
 pub returns-in-Some : goal.returns-in-Some
 unfolding shown_since detail_of
 returns-in-Some c =
-    rw (← c.in_position.ensures, c.if-in_position.true, c.in-Some.is, ← c.bars_since.ensures) (unfold detail in refl)
+    let since : c.bars_since.result ≡ c.args.s.bars_seen - 1 - c.in-Some.bar = omega arith in
+    rw (← c.in_position.ensures, c.if-in_position.true, c.in-Some.is, ← since) (unfold detail in refl)
 
 pub returns-else-in_position : goal.returns-else-in_position
 unfolding shown_since detail_of
