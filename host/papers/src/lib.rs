@@ -38,9 +38,9 @@ pub fn text(path: &str) -> String {
     fs::read(root().join(path)).map(|bytes| String::from_utf8_lossy(&bytes).into_owned()).unwrap_or_default()
 }
 
-/// A paper says how things are. Three in docs/ say how they were, too, so they may name what is gone.
+/// A paper says how things are. Four in docs/ say how they were, too, so they may name what is gone.
 pub fn is_paper(path: &str) -> bool {
-    let of_before = ["docs/CHANGES.md", "docs/PORT.md", "docs/DESIGN-PASS.md"].contains(&path);
+    let of_before = ["docs/CHANGES.md", "docs/PORT.md", "docs/DESIGN-PASS.md", "docs/LOOK-BACK.md"].contains(&path);
     let in_docs = path.starts_with("docs/") && path.ends_with(".md") && !of_before;
     in_docs
         || path == "README.md"
